@@ -1,0 +1,5 @@
+pub mod Within
+pub mod Sizes
+pub mod Order
+pub mod Accepted
+pub mod Bench

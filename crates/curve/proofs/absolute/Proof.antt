@@ -1,0 +1,139 @@
+-- `absolute` meets its contract: each test is made where those before it fail, and leaves V and z small enough for what
+-- follows. Assumes nothing.
+use mathlib.Core.Path.{_≡_, sym, _∙_, ap}
+use mathlib.Core.Bool.{Bool, true, false}
+use Prim.Native.Nat.{ℕ, _≤_}
+use native.Mathlib.Omega.{arith}
+use borrow.Author.Needs.{needs}
+use mir.Facts.{toZ-ofZ}
+use mir.Syntax.{w64}
+use mir.Val.{SFits}
+use lib.IntN.{ℤ, pos, natAbs}
+use lib.Signed.{ltZ, leZ}
+use Rattle.rounding.proofs.Tests.{lt-false, size-of}
+use Rattle.curve.specs.declared.Reading.the-variants.{Value}
+use Rattle.curve.specs.Curve.{reducedOf, wetOf}
+use Rattle.curve.specs.Absolute.{absoluteOf}
+use Rattle.curve.proofs.Order.{reduced-nonnegative}
+use Rattle.curve.proofs.absolute.Statement.{statement}
+use Rattle.curve.proofs.absolute.Tie as tie
+
+below-zero-requires : tie.Need-below-zero-requires
+below-zero-requires c κs = search needs
+
+-- each test, in the parameters' terms
+below : (c : tie.After-below-zero) → ltZ (c .before .args .v) (pos 0) ≡ c .below-zero .result
+below c = let fv = c .before .fits .v in sym (simp toZ-ofZ at (c .below-zero .ensures))
+
+returns : tie.Need-returns
+unfolding absoluteOf
+returns c = rw (below (c .before) ∙ c .if1 .taken)
+
+above-requires : tie.Need-above-requires
+above-requires c κs = search needs
+
+high : (c : tie.After-above) → ltZ (pos 150000000) (c .before .before .before .args .v) ≡ c .above .result
+high c = let fv = c .before .before .before .fits .v in sym (simp toZ-ofZ at (c .above .ensures))
+
+returns-2 : tie.Need-returns-2
+unfolding absoluteOf
+returns-2 c = rw (below (c .before .before .before) ∙ c .before .before .if1 .left, high (c .before) ∙ c .if2 .taken)
+
+at-least-requires : tie.Need-at-least-requires
+at-least-requires c κs = omega (arith, c .before .before .before .before .pre .0 .k-high)
+
+at-k : (c : tie.After-at-least) → leZ (pos (c .before .before .before .before .before .args .s .k)) (c .before .before .before .before .before .args .v) ≡ c .at-least .result
+at-k c = let fv = c .before .before .before .before .before .fits .v in sym (simp toZ-ofZ at (c .at-least .ensures))
+
+returns-3 : tie.Need-returns-3
+unfolding absoluteOf
+returns-3 c =
+    let d = c .before .before in
+    rw (below (d .before .before .before) ∙ d .before .before .if1 .left, high (d .before) ∙ d .if2 .left, at-k (c .before) ∙ c .if3 .taken)
+
+reduced-requires : tie.Need-reduced-requires
+reduced-requires c κs =
+    let d = c .before .before in
+    let s = d .before .before .before .before in
+    let v = s .args .v in
+    let fv = s .fits .v in
+    let low = lt-false v (pos 0) (below (d .before .before .before) ∙ d .before .before .if1 .left) in
+    let top = lt-false (pos 150000000) v (high (d .before) ∙ d .if2 .left) in
+    simp toZ-ofZ (size-of low top, s .pre .1)
+
+z-is : (c : tie.After-reduced) → c .reduced .result ≡ reducedOf (c .before .before .before .before .before .before .before .args .v) (c .before .before .before .before .before .before .before .args .a)
+z-is c = let fv = c .before .before .before .before .before .before .before .fits .v in simp toZ-ofZ at (c .reduced .ensures)
+
+above-requires-2 : tie.Need-above-requires-2
+above-requires-2 c κs = search needs
+
+z-high : (c : tie.After-above2) → ltZ (pos 100000000) (reducedOf (c .before .before .before .before .before .before .before .before .args .v) (c .before .before .before .before .before .before .before .before .args .a)) ≡ c .above2 .result
+z-high c =
+    let fz : SFits w64 (c .before .reduced .result) = search needs in
+    sym (rw (z-is (c .before)) at (simp toZ-ofZ at (c .above2 .ensures)))
+
+-- the four tests that are passed where z is known
+module _ (c : tie.After-above2) where
+  below-at : ltZ (c .before .before .before .before .before .before .before .before .args .v) (pos 0) ≡ false
+  below-at = let d = c .before .before .before .before in below (d .before .before .before) ∙ d .before .before .if1 .left
+
+  high-at : ltZ (pos 150000000) (c .before .before .before .before .before .before .before .before .args .v) ≡ false
+  high-at = let d = c .before .before .before .before in high (d .before) ∙ d .if2 .left
+
+  at-k-at : leZ (pos (c .before .before .before .before .before .before .before .before .args .s .k)) (c .before .before .before .before .before .before .before .before .args .v) ≡ false
+  at-k-at = at-k (c .before .before .before) ∙ c .before .before .if3 .left
+
+returns-4 : tie.Need-returns-4
+unfolding absoluteOf
+returns-4 c = let d = c .before in rw (below-at d, high-at d, at-k-at d, z-high d ∙ c .if4 .taken)
+
+wet-requires : tie.Need-wet-requires
+wet-requires c κs =
+    let d = c .before in
+    let s = d .before .before .before .before .before .before .before .before in
+    let fz : SFits w64 (d .before .reduced .result) = search needs in
+    let low = reduced-nonnegative (s .args .a) (s .pre .1) (lt-false (s .args .v) (pos 0) (below-at d)) in
+    let top = lt-false (pos 100000000) (reducedOf (s .args .v) (s .args .a)) (z-high d ∙ c .if4 .left) in
+    simp toZ-ofZ (s .pre .0, rw (z-is (d .before)) (size-of low top), s .pre .1)
+
+c-is : (c : tie.After-wet) → c .wet .result ≡ wetOf (c .before .before .before .before .before .before .before .before .before .before .args .s) (reducedOf (c .before .before .before .before .before .before .before .before .before .before .args .v) (c .before .before .before .before .before .before .before .before .before .before .args .a)) (c .before .before .before .before .before .before .before .before .before .before .args .a)
+c-is c =
+    let fz : SFits w64 (c .before .before .before .reduced .result) = search needs in
+    rw (z-is (c .before .before .before)) at (simp toZ-ofZ at (c .wet .ensures))
+
+above-requires-3 : tie.Need-above-requires-3
+above-requires-3 c κs = search needs
+
+c-high : (c : tie.After-above3) → ltZ (pos 3000000000) (c .before .wet .result) ≡ c .above3 .result
+c-high c = let fc : SFits w64 (c .before .wet .result) = search needs in sym (simp toZ-ofZ at (c .above3 .ensures))
+
+returns-5 : tie.Need-returns-5
+unfolding absoluteOf
+returns-5 c =
+    let d = c .before .before .before .before in
+    rw (below-at d, high-at d, at-k-at d, z-high d ∙ c .before .before .before .if4 .left, ← c-is (c .before .before), c-high (c .before) ∙ c .if5 .taken)
+
+returns-6 : tie.Need-returns-6
+unfolding absoluteOf
+returns-6 c =
+    let d = c .before .before .before .before in
+    let fc : SFits w64 (c .before .before .wet .result) = search needs in
+    rw (below-at d, high-at d, at-k-at d, z-high d ∙ c .before .before .before .if4 .left, ← c-is (c .before .before), c-high (c .before) ∙ c .if5 .left) (ap Value (toZ-ofZ fc))
+
+pub absolute-spec : {M : Type 1} → statement M
+absolute-spec =
+    tie.close
+    (tie.spec
+    below-zero-requires
+    returns
+    above-requires
+    returns-2
+    at-least-requires
+    returns-3
+    reduced-requires
+    above-requires-2
+    returns-4
+    wet-requires
+    above-requires-3
+    returns-5
+    returns-6)

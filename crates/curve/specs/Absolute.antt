@@ -1,0 +1,48 @@
+-- The absolute reading of document 01, "Curve and absolute reading", with its refusals. Assumes nothing.
+use Prim.Native.Nat.{ℕ}
+use mathlib.Core.Bool.{Bool, cond}
+use lib.IntN.{ℤ, pos}
+use lib.Signed.{ltZ, leZ}
+use Rattle.curve.specs.declared.Sheet.{Sheet}
+use Rattle.curve.specs.declared.Air.{Air}
+use Rattle.curve.specs.declared.Reading.{Reading}
+use Rattle.curve.specs.declared.Reading.the-variants.{Value, BelowZero, OverRange}
+use Rattle.curve.specs.Curve.{reducedOf, wetOf}
+
+-- the paper's refusal number of a reading, 0 if accepted, and its value, 0 if refused
+abbrev pub refusalOf : Reading → ℕ
+refusalOf (Value c) = 0
+refusalOf BelowZero = 7
+refusalOf OverRange = 8
+
+abbrev pub valueOf : Reading → ℤ
+valueOf (Value c) = c
+valueOf BelowZero = pos 0
+valueOf OverRange = pos 0
+
+-- the four grounds of refusal 8: V above 150,000,000; V at or above K; z above 10^8; c above 3,000,000,000
+abbrev pub signalHigh : ℤ → Bool
+signalHigh v = ltZ (pos 150000000) v
+
+abbrev pub signalAtK : Sheet → ℤ → Bool
+signalAtK s v = leZ (pos (s .k)) v
+
+abbrev pub reducedHigh : ℤ → Bool
+reducedHigh z = ltZ (pos 100000000) z
+
+abbrev pub wetHigh : ℤ → Bool
+wetHigh c = ltZ (pos 3000000000) c
+
+-- a reading that is refused with 8 where the ground holds
+abbrev pub unlessOver : Bool → Reading → Reading
+unlessOver ground r = cond ground OverRange r
+
+-- the absolute reading of the signal V
+unfoldable pub absoluteOf : Sheet → ℤ → Air → Reading
+absoluteOf s v a =
+    cond (ltZ v (pos 0)) BelowZero
+    (unlessOver (signalHigh v)
+    (unlessOver (signalAtK s v)
+    (unlessOver (reducedHigh (reducedOf v a))
+    (unlessOver (wetHigh (wetOf s (reducedOf v a) a))
+    (Value (wetOf s (reducedOf v a) a))))))

@@ -1,0 +1,4 @@
+pub mod Limits
+pub mod Curve
+pub mod Absolute
+pub mod Bench

@@ -1,0 +1,103 @@
+-- The chain of errors: how far each rounded step of the absolute reading is from its exact value, where the signal is at most
+-- k / 2 from the exact one. Errors up to f are written over D, with kB for 10,130,000 k: z (D + kB) / 2D, h2 (2 D + kB) / 2D,
+-- h1 (41,001 D + 30,001 kB) / 2,000 D, f (711,020 D + 600,020 kB) / 2,000 D; then g (37,628 + 50,652 k) / 100 and
+-- c 446 + 600 k. Assumes nothing.
+use Prim.Native.Nat.{ℕ, _+_, _*_, _≤_, _<_}
+use native.Mathlib.Nat.{le-refl, mul-pos, mul-le-mul-left}
+use native.Mathlib.Omega.{arith}
+use lib.IntN.{ℤ, pos, natAbs, _*ℤ_}
+use Rattle.rounding.proofs.Nearest.{near-half}
+use Rattle.rounding.proofs.Approximation.{Within, within-weaken, within-same, within-size, within-add, within-scale, within-round, within-product}
+use Rattle.curve.specs.declared.Sheet.{Sheet}
+use Rattle.curve.specs.declared.Air.{Air}
+use Rattle.curve.specs.Limits.{SheetOk, AirOk}
+use Rattle.curve.specs.Curve.{broadeningOf, reducedOf, slope2Of, slope1Of, cubicOf, moistOf, warmOf, wetOf}
+use Rattle.curve.proofs.Sizes.{slope2-size, slope1-size}
+use Rattle.exact.specs.Fraction.{Fraction}
+use Rattle.exact.specs.Equation.{exactReduced, exactCurve, exactMoist, exactWet}
+use Rattle.exact.proofs.Horner.{exactSlope2, exactSlope1, exactHorner, horner}
+use Rattle.exact.proofs.Lower.{horner-lower, reduced-lower}
+
+-- c is at most E / S from x
+abbrev pub Approx : ℤ → Fraction → ℕ → ℕ → Type 0
+Approx c x E S = Within c (x .num) (x .den) E S
+
+-- ---- the numbers
+z-bound : (D k : ℕ) → (2 * (k * 10130000) + D * 2) * (2 * D) ≤ (D + k * 10130000) * (2 * D * 2)
+z-bound D k = omega arith
+
+h2-bound : (D k : ℕ) → (2 * ((D + k * 10130000) * 10000000) + 10000000 * (2 * D)) * (2 * D) ≤ (2 * D + k * 10130000) * (2 * 10000000 * (2 * D))
+h2-bound D k = omega arith
+
+h1-bound : (D k : ℕ) → (2 * (200000000 * (D + k * 10130000) + 100000003 * (2 * D + k * 10130000)) + 10000000 * (2 * D)) * (2000 * D)
+    ≤ (41001 * D + 30001 * (k * 10130000)) * (2 * 10000000 * (2 * D))
+h1-bound D k = omega arith
+
+up-bound : (D k : ℕ) → (D + k * 10130000) * (2000 * D) ≤ (1000 * D + 1000 * (k * 10130000)) * (2 * D)
+up-bound D k = omega arith
+
+f-bound : (D k : ℕ) → (2 * (3000000000 * (1000 * D + 1000 * (k * 10130000)) + 100000003 * (41001 * D + 30001 * (k * 10130000))) + 10000000 * (2000 * D)) * (2000 * D)
+    ≤ (711020 * D + 600020 * (k * 10130000)) * (2 * 10000000 * (2000 * D))
+f-bound D k = omega arith
+
+g-bound : (D k p : ℕ) → 10 * D ≤ 1057 * p → 60000 ≤ p
+    → (2 * ((711020 * D + 600020 * (k * 10130000)) * D) + 100 * p * (2000 * D)) * 100 ≤ (37628 + 50652 * k) * (2 * (100 * p) * (2000 * D))
+g-bound D k p l h = omega (arith, mul-le-mul-left D l, mul-le-mul-left (k * D) h)
+
+c-bound : (k t0 : ℕ) → 27315 ≤ t0 → (2 * ((37628 + 50652 * k) * 32315) + t0 * 100) * 1 ≤ (446 + 600 * k) * (2 * t0 * 100)
+c-bound k t0 h = omega (arith, mul-le-mul-left k h)
+
+-- ---- z
+module _ (a : Air) (ok : AirOk a) (k : ℕ) {v : ℤ} {x : Fraction} (w : Approx v x k 2) where
+  pub z-within : Approx (reducedOf v a) (exactReduced x a) (broadeningOf a + k * 10130000) (2 * broadeningOf a)
+  unfolding reducedOf exactReduced
+  z-within =
+      within-weaken (within-round (within-scale w 10130000 (le-refl 10130000)) (near-half (v *ℤ pos 10130000) (broadeningOf a) (omega (arith, ok .p-low))))
+      (broadeningOf a + k * 10130000) (2 * broadeningOf a) (omega (arith, ok .p-low)) (z-bound (broadeningOf a) k)
+
+  -- the exact z is at most 3 above 10^8
+  pub exact-z-size : k ≤ 2 → natAbs (reducedOf v a) ≤ 100000000 → natAbs (exactReduced x a .num) ≤ 100000003 * exactReduced x a .den
+  exact-z-size few h = within-size z-within 100000000 100000003 (omega (arith, ok .p-low)) h (omega (arith, ok .p-low))
+
+-- ---- from z to f, at an exact z
+module _ (s : Sheet) (ok : SheetOk s) (D k : ℕ) (d : 0 < D) {z : ℤ} {y : Fraction} (w : Approx z y (D + k * 10130000) (2 * D))
+    (size : natAbs z ≤ 100000000) (exact-size : natAbs (y .num) ≤ 100000003 * y .den) where
+  h2-within : Approx (slope2Of s z) (exactSlope2 s y) (2 * D + k * 10130000) (2 * D)
+  unfolding slope2Of exactSlope2
+  h2-within =
+      within-add (within-weaken (within-round (within-scale w 10000000 (ok .a3-high)) (near-half (z *ℤ pos (s .a3)) 10000000 (omega arith)))
+      (2 * D + k * 10130000) (2 * D) (omega arith) (h2-bound D k)) (pos (s .a2))
+
+  h1-within : Approx (slope1Of s z) (exactSlope1 s y) (41001 * D + 30001 * (k * 10130000)) (2000 * D)
+  unfolding slope1Of exactSlope1
+  h1-within =
+      within-add (within-weaken (within-round (within-product w h2-within 100000003 200000000 exact-size (slope2-size s ok z size)) (near-half (z *ℤ slope2Of s z) 10000000 (omega arith)))
+      (41001 * D + 30001 * (k * 10130000)) (2000 * D) (omega arith) (h1-bound D k)) (pos (s .a1))
+
+  horner-within : Approx (cubicOf s z) (exactHorner s y) (711020 * D + 600020 * (k * 10130000)) (2000 * D)
+  unfolding cubicOf exactHorner
+  horner-within =
+      let u = within-weaken w (1000 * D + 1000 * (k * 10130000)) (2000 * D) (omega arith) (up-bound D k) in
+      within-weaken (within-round (within-product u h1-within 100000003 3000000000 exact-size (slope1-size s ok z size)) (near-half (z *ℤ slope1Of s z) 10000000 (omega arith)))
+      (711020 * D + 600020 * (k * 10130000)) (2000 * D) (omega arith) (f-bound D k)
+
+  f-within : 0 < y .den → Approx (cubicOf s z) (exactCurve s y) (711020 * D + 600020 * (k * 10130000)) (2000 * D)
+  f-within l = within-same horner-within (exactCurve s y .num) (exactCurve s y .den) (horner-lower s y l) (horner s y)
+
+-- ---- the whole chain
+module _ (s : Sheet) (okS : SheetOk s) (a : Air) (okA : AirOk a) (k : ℕ) {v : ℤ} {x : Fraction} (w : Approx v x k 2) (lower : 0 < x .den)
+    (size : natAbs (reducedOf v a) ≤ 100000000) (exact-size : natAbs (exactReduced x a .num) ≤ 100000003 * exactReduced x a .den) where
+  g-within : Approx (moistOf (cubicOf s (reducedOf v a)) a) (exactMoist (exactCurve s (exactReduced x a)) a) (37628 + 50652 * k) 100
+  unfolding moistOf
+  g-within =
+      let D = broadeningOf a in let f = cubicOf s (reducedOf v a) in
+      let d : 0 < D = omega (arith, okA .p-low) in
+      let u = f-within s okS D k d (z-within a okA k w) size exact-size (reduced-lower a okA x lower) in
+      within-weaken (within-round (within-scale u D (le-refl D)) (near-half (f *ℤ pos D) (100 * a .p) (omega (arith, okA .p-low))))
+      (37628 + 50652 * k) 100 (mul-pos (omega (arith, okA .p-low)) (omega arith)) (g-bound D k (a .p) (omega (arith, okA .e-high)) (okA .p-low))
+
+  pub wet-within : Approx (wetOf s (reducedOf v a) a) (exactWet s x a) (446 + 600 * k) 1
+  unfolding wetOf warmOf exactWet
+  wet-within =
+      within-weaken (within-round (within-scale g-within 32315 (okA .t-high)) (near-half (moistOf (cubicOf s (reducedOf v a)) a *ℤ pos (a .t)) (s .t0) (omega (arith, okS .t0-low))))
+      (446 + 600 * k) 1 (omega (arith, okS .t0-low)) (c-bound k (s .t0) (okS .t0-low))

@@ -1,0 +1,35 @@
+-- The area rule of document 01, 2Σ − (n − 1)(Xs + Xe), over a list of wet values and over a list of exact values. The area of an
+-- empty list is 0. Assumes nothing.
+use mathlib.Core.List.{List, [], _∷_, foldr}
+use Prim.Native.Nat.{_-_}
+use lib.IntN.{ℤ, pos, _+ℤ_, _-ℤ_, _*ℤ_}
+use lib.ListN.{length, getD}
+use Rattle.exact.specs.Fraction.{Fraction, whole, plus, minus, scaled, LiesWithin}
+use Rattle.exact.specs.Bounds.{againstBound}
+
+-- Xs and Xe: the first of a list and its last, `missing` where it is empty
+abbrev pub firstOf : {A : Type 0} → A → List A → A
+firstOf missing xs = getD xs 0 missing
+
+abbrev pub lastOf : {A : Type 0} → A → List A → A
+lastOf missing xs = getD xs (length xs - 1) missing
+
+-- ---- of wet values
+abbrev pub sumOf : List ℤ → ℤ
+sumOf ws = foldr _+ℤ_ (pos 0) ws
+
+unfoldable pub areaOf : List ℤ → ℤ
+areaOf ws = sumOf ws *ℤ pos 2 -ℤ (firstOf (pos 0) ws +ℤ lastOf (pos 0) ws) *ℤ pos (length ws - 1)
+
+-- ---- of exact values
+abbrev pub exactSum : List Fraction → Fraction
+exactSum xs = foldr plus (whole (pos 0)) xs
+
+unfoldable pub exactArea : List Fraction → Fraction
+exactArea xs =
+    minus (scaled (exactSum xs) 2) (scaled (plus (firstOf (whole (pos 0)) xs) (lastOf (whole (pos 0)) xs)) (length xs - 1))
+
+-- two lists of one length, each wet value within 1,800 of the exact value beside it
+pub data EachWithin : List ℤ → List Fraction → Type 0 where
+  empty : EachWithin [] []
+  next : {w : ℤ} {x : Fraction} {ws : List ℤ} {xs : List Fraction} → LiesWithin w againstBound x → EachWithin ws xs → EachWithin (w ∷ ws) (x ∷ xs)

@@ -1,0 +1,5 @@
+pub mod Least
+pub mod Serving
+pub mod Bracket
+pub mod Against
+pub mod Bench

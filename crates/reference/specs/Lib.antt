@@ -1,0 +1,4 @@
+pub mod Signal
+pub mod Search
+pub mod Sought
+pub mod Bench

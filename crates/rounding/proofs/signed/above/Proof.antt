@@ -1,0 +1,19 @@
+-- `above` meets its contract: n is below 2^63, so the machine compares a with n itself. Assumes nothing.
+use borrow.Author.Needs.{needs}
+use mir.Facts.{toZ-ofZ}
+use mir.Syntax.{w64}
+use mir.Val.{SFits}
+use Rattle.rounding.proofs.signed.above.Statement.{statement}
+use Rattle.rounding.proofs.signed.above.Tie as tie
+
+positive-requires : tie.Need-positive-requires
+positive-requires c κs = search needs
+
+returns : tie.Need-returns
+returns c =
+    let fa = c .before .fits .a in
+    let fn : SFits w64 (c .positive .result) = search needs in
+    simp toZ-ofZ (rw (c .positive .ensures))
+
+pub above-spec : {M : Type 1} → statement M
+above-spec = tie.close (tie.spec positive-requires returns)

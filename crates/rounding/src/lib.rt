@@ -1,0 +1,49 @@
+// Rounding to the nearest whole number, and the signed arithmetic that the crates above build on.
+ghost use mathlib.Core.Path.{_≡_};
+ghost use Prim.Native.Nat.{_+_, _*_, _/_, _<_, _≤_};
+ghost use lib.IntN.{natAbs, pos, _*ℤ_};
+ghost use Rattle.rounding.specs.Near.{nearest};
+use crate::signed::magnitude;
+use crate::signed::negative;
+use crate::signed::positive;
+use crate::signed::product;
+
+pub mod signed;
+
+// Document 01's near(a/b): the nearest whole number to a / b, a half going up.
+pub fn near(a: i64, b: u64) -> i64
+    requires { ⌜ (natAbs a ≤ 4000000000000000000) × (0 < b) × (b ≤ 1000000000000000000) ⌝ }
+    ensures { λ r. ⌜ r ≡ nearest a b ⌝ }
+{
+    let m = magnitude(a);
+    if a < 0 {
+        // A half goes up, which is toward 0 here.
+        negative(quotient(m, b - 1, b))
+    } else {
+        positive(quotient(m, b, b))
+    }
+}
+
+// (2m + half) / 2b rounded down: the one division of a rounding.
+fn quotient(m: u64, half: u64, b: u64) -> u64
+    requires { ⌜ (m ≤ 4000000000000000000) × (half ≤ b) × (0 < b) × (b ≤ 1000000000000000000) ⌝ }
+    ensures { λ r. ⌜ r ≡ (2 * m + half) / (2 * b) ⌝ }
+{
+    (2 * m + half) / (2 * b)
+}
+
+// a b / d rounded, the form of every rounded step of document 01.
+pub fn near_product(a: i64, b: i64, d: u64) -> i64
+    requires { ⌜ (natAbs a * natAbs b ≤ 4000000000000000000) × (0 < d) × (d ≤ 1000000000000000000) ⌝ }
+    ensures { λ r. ⌜ r ≡ nearest (a *ℤ b) d ⌝ }
+{
+    near(product(a, b), d)
+}
+
+// The same where the second factor is unsigned.
+pub fn near_scaled(a: i64, n: u64, d: u64) -> i64
+    requires { ⌜ (natAbs a * n ≤ 4000000000000000000) × (n ≤ 4000000000000000000) × (0 < d) × (d ≤ 1000000000000000000) ⌝ }
+    ensures { λ r. ⌜ r ≡ nearest (a *ℤ pos n) d ⌝ }
+{
+    near_product(a, positive(n), d)
+}

@@ -1,0 +1,188 @@
+//! An engine under test beside this implementation, over many invented sessions.
+//!
+//! Every byte of the lent output is compared, and every printed line. Since the
+//! answers are then the same, the exact ledger is walked over ours: demand 3's
+//! distances are checked on each session too.
+
+use std::fs;
+use std::io::Write;
+use std::path::{Path, PathBuf};
+use std::process::{Command, Stdio};
+use std::thread;
+
+use crate::file::{self, Outcome, Session, RECORD_BYTES};
+use crate::ledger::{self, Distances};
+use crate::random::Random;
+use crate::sessions;
+
+/// A run over a lent file into a lent output.
+pub trait Engine {
+    fn run(&mut self, file: &[u8], output: &mut [u8]) -> Outcome;
+}
+
+impl<F: FnMut(&[u8], &mut [u8]) -> Outcome> Engine for F {
+    fn run(&mut self, file: &[u8], output: &mut [u8]) -> Outcome {
+        self(file, output)
+    }
+}
+
+/// A program from standard input to standard output.
+pub trait Program {
+    fn print(&mut self, input: &[u8]) -> Result<Vec<u8>, String>;
+}
+
+/// A program that is an executable file.
+pub struct Executable {
+    pub path: PathBuf,
+}
+
+impl Program for Executable {
+    fn print(&mut self, input: &[u8]) -> Result<Vec<u8>, String> {
+        let fault = |what: &str, why: std::io::Error| format!("cannot {what}: {why}");
+        let mut child = Command::new(&self.path)
+            .stdin(Stdio::piped())
+            .stdout(Stdio::piped())
+            .spawn()
+            .map_err(|why| fault("start the program", why))?;
+        let mut standard_input = child.stdin.take().ok_or("no standard input")?;
+        let input = input.to_vec();
+        // A program may print before it has read all, or stop reading at its limit:
+        // the writer has a thread of its own, and a closed pipe is no fault.
+        let writer = thread::spawn(move || standard_input.write_all(&input).is_ok());
+        let output = child.wait_with_output().map_err(|why| fault("wait", why))?;
+        writer.join().map_err(|_| "the writer failed".to_string())?;
+        Ok(output.stdout)
+    }
+}
+
+/// What a campaign has gone through.
+#[derive(Clone, Debug, Default)]
+pub struct Count {
+    pub sessions: u64,
+    pub events: u64,
+    /// How many events of a kind (first index) ended in a refusal number (second).
+    pub answers: Vec<[u64; 14]>,
+    pub samples_against: u64,
+    pub statuses: [u64; 14],
+    pub met: Distances,
+}
+
+/// Many sessions under one seed; a failing one is written into the folder.
+pub struct Campaign {
+    pub seed: u64,
+    pub sessions: u64,
+    pub folder: PathBuf,
+}
+
+impl Campaign {
+    /// As many sessions as the environment variable IRGA_SESSIONS says, or 20,000.
+    pub fn from_environment(seed: u64, folder: &Path) -> Campaign {
+        let asked = std::env::var("IRGA_SESSIONS").ok();
+        let sessions = asked.and_then(|text| text.parse().ok()).unwrap_or(20_000);
+        Campaign { seed, sessions, folder: folder.to_path_buf() }
+    }
+
+    /// Compares an engine with this implementation, byte by byte.
+    pub fn against_engine(&self, engine: &mut dyn Engine) -> Result<Count, String> {
+        self.each(|file, random| compare_run(engine, file, random))
+    }
+
+    /// Compares a program with this implementation, line by line.
+    pub fn against_program(&self, program: &mut dyn Program) -> Result<Count, String> {
+        self.each(|file, _| {
+            compare_lines(program, file)?;
+            Ok(if Session::open(file).is_some() { 0 } else { 12 })
+        })
+    }
+
+    /// Goes through the sessions with a comparison that gives back the status.
+    fn each(
+        &self,
+        mut compare: impl FnMut(&[u8], &mut Random) -> Result<u8, String>,
+    ) -> Result<Count, String> {
+        let mut count = Count { answers: vec![[0; 14]; 256], ..Count::default() };
+        for number in 0..self.sessions {
+            let made = sessions::make(self.seed, number);
+            let mut random = Random::of_session(!self.seed, number);
+            let compared = compare(&made.file, &mut random);
+            let checked = compared.and_then(|status| {
+                count.statuses[usize::from(status)] += 1;
+                count.add(&made.file)
+            });
+            if let Err(why) = checked {
+                return Err(self.report(number, &made.file, &why));
+            }
+        }
+        Ok(count)
+    }
+
+    fn report(&self, number: u64, file: &[u8], why: &str) -> String {
+        let name = format!("failed-{}-{number}.session", self.seed);
+        let path = self.folder.join(name);
+        let kept = match fs::write(&path, file) {
+            Ok(()) => format!("written to {}", path.display()),
+            Err(fault) => format!("cannot be written to {}: {fault}", path.display()),
+        };
+        format!("session {number} of seed {}, {kept}: {why}", self.seed)
+    }
+}
+
+impl Count {
+    /// Walks the ledger over a session's answers and counts them.
+    fn add(&mut self, file: &[u8]) -> Result<(), String> {
+        self.sessions += 1;
+        let Some(session) = Session::open(file) else {
+            return Ok(());
+        };
+        let answers = session.answers();
+        let entries = session.events.iter().map(|record| record.entry());
+        self.met.join(&ledger::check_list(&session.sheets, entries, &answers)?);
+        for answer in &answers {
+            self.events += 1;
+            self.answers[usize::from(answer.kind)][usize::from(answer.refusal)] += 1;
+            self.samples_against += u64::from(answer.kind == 6 && answer.m > 0);
+        }
+        Ok(())
+    }
+
+    /// Events of any kind that ended in this refusal number; 0 counts accepted ones.
+    pub fn refused_with(&self, number: usize) -> u64 {
+        self.answers.iter().map(|of_kind| of_kind[number]).sum()
+    }
+}
+
+fn compare_run(engine: &mut dyn Engine, file: &[u8], random: &mut Random) -> Result<u8, String> {
+    let events = Session::open(file).map_or(3, |session| session.events.len());
+    let before = sessions::lent_output(random, RECORD_BYTES * events);
+    let (mut ours, mut theirs) = (before.clone(), before);
+    let expected = file::run(file, &mut ours);
+    let outcome = engine.run(file, &mut theirs);
+    if outcome != expected {
+        return Err(format!("expected {expected:?}, the engine gave {outcome:?}"));
+    }
+    match ours.iter().zip(&theirs).position(|(a, b)| a != b) {
+        None => Ok(expected.status),
+        Some(at) if at >= expected.written => {
+            Err(format!("byte {at} after the answers was touched"))
+        }
+        Some(at) => {
+            let from = at - at % RECORD_BYTES;
+            let to = from + RECORD_BYTES;
+            let ordinal = at / RECORD_BYTES + 1;
+            let (ours, theirs) = (&ours[from..to], &theirs[from..to]);
+            Err(format!("answer {ordinal}: expected {ours:?}, the engine gave {theirs:?}"))
+        }
+    }
+}
+
+fn compare_lines(program: &mut dyn Program, file: &[u8]) -> Result<(), String> {
+    let ours = file::program(file);
+    let printed = program.print(file)?;
+    if printed == ours.as_bytes() {
+        return Ok(());
+    }
+    let theirs = String::from_utf8_lossy(&printed);
+    let differs = ours.lines().zip(theirs.lines()).find(|(a, b)| a != b);
+    let (expected, given) = differs.unwrap_or(("the same lines", "other lengths or line ends"));
+    Err(format!("expected the line '{expected}', the program printed '{given}'"))
+}

@@ -1,0 +1,21 @@
+//! A second implementation of the analyser engine, written from document 01
+//! alone, so that two readings of the same paper can be held against each other.
+//!
+//! `rules` is the arithmetic, `engine` the nine events, `file` the session file
+//! and the program. `big`, `exact` and `ledger` are the other side of demand 3:
+//! equation (11) in exact fractions and the ledger that walks beside the engine.
+//! `random` and `sessions` invent lessons, `harness` compares an engine with this
+//! one over many of them, `bench` holds the readings and the maker's table that
+//! the papers give, and `worst` looks for the readings with the largest errors.
+
+pub mod bench;
+pub mod big;
+pub mod engine;
+pub mod exact;
+pub mod file;
+pub mod harness;
+pub mod ledger;
+pub mod random;
+pub mod rules;
+pub mod sessions;
+pub mod worst;

@@ -1,0 +1,71 @@
+//! Spoilt files and spoilt events.
+
+use crate::file::{EventRecord, HEADER_BYTES, INPUT_LIMIT, RECORD_BYTES};
+use crate::random::Random;
+
+use super::numbers;
+
+/// Spoils a file's header or length. Now and then the file comes out sound.
+pub fn damage(random: &mut Random, file: &mut Vec<u8>) {
+    match random.below(8) {
+        0 => file.truncate(random.below(HEADER_BYTES as u64 + 1) as usize),
+        1 => {
+            let cut = random.between(1, 2 * RECORD_BYTES as i64) as usize;
+            file.truncate(file.len().saturating_sub(cut));
+        }
+        2 => {
+            let longer = file.len() + random.between(1, 2 * RECORD_BYTES as i64) as usize;
+            file.resize(longer, 0);
+        }
+        3 | 4 => spoil_header(random, file),
+        5 => over_the_counts(random, file),
+        6 => {
+            let length = INPUT_LIMIT + random.pick(&[0, 1, 2, RECORD_BYTES, 5_000]);
+            file.resize(length, 0);
+        }
+        _ => file.clear(),
+    }
+}
+
+fn word_at(file: &[u8], at: usize) -> u32 {
+    u32::from_le_bytes([file[at], file[at + 1], file[at + 2], file[at + 3]])
+}
+
+fn put_word(file: &mut [u8], at: usize, word: u32) {
+    file[at..at + 4].copy_from_slice(&word.to_le_bytes());
+}
+
+fn spoil_header(random: &mut Random, file: &mut [u8]) {
+    let at = 4 * random.below(4) as usize;
+    let old = word_at(file, at);
+    let word = match random.below(5) {
+        0 => old.wrapping_add(1),
+        1 => old.wrapping_sub(1),
+        2 => 0,
+        3 => old.wrapping_add(RECORD_BYTES as u32),
+        _ => numbers::wild(random),
+    };
+    put_word(file, at, word);
+}
+
+/// One sheet or one event more than a file may have, with everything else right.
+fn over_the_counts(random: &mut Random, file: &mut Vec<u8>) {
+    let (sheets, events) = if random.percent(50) { (17, 3) } else { (1, 2_701) };
+    let events_at = HEADER_BYTES + RECORD_BYTES * sheets;
+    file.resize(events_at + RECORD_BYTES * events, 0);
+    put_word(file, 0, sheets as u32);
+    put_word(file, 4, HEADER_BYTES as u32);
+    put_word(file, 8, events as u32);
+    put_word(file, 12, events_at as u32);
+}
+
+/// Spoils one event: its kind, its padding, or a field that its kind may lack.
+pub fn spoil(random: &mut Random, record: &mut EventRecord) {
+    match random.below(5) {
+        0 => record.kind = random.pick(&[0, 10, 11, 22, 128, 255, 6]),
+        1 => record.padding[random.below(3) as usize] = 1 << random.below(8),
+        2 => record.raw ^= 1 << random.below(31),
+        3 => record.c ^= 1 << random.below(32),
+        _ => record.e ^= 1 << random.below(32),
+    }
+}

@@ -1,0 +1,100 @@
+//! Invented sessions: lessons as a class would give them, the limits and one beside
+//! them, hostile kinds and padding, damaged headers and lengths, long integrations,
+//! and lists with hardly an accepted event.
+
+mod author;
+mod damage;
+mod numbers;
+
+use crate::file::{Session, EVENTS_LIMIT};
+use crate::random::Random;
+use author::Author;
+
+/// How a session's author behaves; the numbers are chances in a hundred.
+#[derive(Clone, Copy, Debug)]
+pub struct Profile {
+    pub name: &'static str,
+    /// How often this profile is taken, out of the sum over all profiles.
+    weight: u64,
+    shortest: i64,
+    longest: i64,
+    /// A number is at its limit or one beside it.
+    edge: u64,
+    /// An event of any kind stands where a lesson would have another.
+    stray: u64,
+    /// A number is any that its field can hold.
+    wild: u64,
+    /// The event's bytes are spoilt.
+    spoilt: u64,
+    /// The file's header or length is spoilt.
+    damaged: u64,
+}
+
+const LESSON: Profile = Profile {
+    name: "lesson",
+    weight: 34,
+    shortest: 8,
+    longest: 60,
+    edge: 2,
+    stray: 3,
+    wild: 0,
+    spoilt: 0,
+    damaged: 0,
+};
+
+pub const PROFILES: [Profile; 7] = [
+    LESSON,
+    Profile { name: "limits", weight: 24, edge: 30, stray: 8, wild: 1, ..LESSON },
+    Profile { name: "hostile", weight: 12, edge: 8, stray: 10, wild: 6, spoilt: 25, ..LESSON },
+    Profile { name: "refusals", weight: 12, edge: 15, stray: 45, wild: 25, spoilt: 5, ..LESSON },
+    Profile { name: "noise", weight: 7, shortest: 0, wild: 100, stray: 100, spoilt: 60, ..LESSON },
+    Profile { name: "damaged file", weight: 10, shortest: 0, longest: 12, damaged: 90, ..LESSON },
+    Profile { name: "long", weight: 1, shortest: 600, longest: 2_700, edge: 0, stray: 0, ..LESSON },
+];
+
+/// A made session file with the name of its profile.
+pub struct Made {
+    pub profile: &'static str,
+    pub file: Vec<u8>,
+}
+
+fn any_profile(random: &mut Random) -> Profile {
+    let all: u64 = PROFILES.iter().map(|profile| profile.weight).sum();
+    let mut left = random.below(all);
+    for profile in PROFILES {
+        if left < profile.weight {
+            return profile;
+        }
+        left -= profile.weight;
+    }
+    LESSON
+}
+
+/// A session's contents by one profile, before any damage to the file.
+pub fn session(random: &mut Random, profile: &Profile) -> Session {
+    let length = random.between(profile.shortest, profile.longest) as usize;
+    Author::new(random, profile).write(length.min(EVENTS_LIMIT))
+}
+
+/// The session of a number under a seed: always the same one.
+pub fn make(seed: u64, number: u64) -> Made {
+    let mut random = Random::of_session(seed, number);
+    let profile = any_profile(&mut random);
+    let mut file = session(&mut random, &profile).to_bytes();
+    if random.percent(profile.damaged) {
+        damage::damage(&mut random, &mut file);
+    }
+    Made { profile: profile.name, file }
+}
+
+/// A lent output for a session of so many events: too short, just enough or with
+/// bytes to spare, and full of old bytes that nobody may touch.
+pub fn lent_output(random: &mut Random, answers_bytes: usize) -> Vec<u8> {
+    let length = match random.below(10) {
+        0 => random.below(answers_bytes as u64 + 1) as usize,
+        1 => answers_bytes.saturating_sub(1),
+        2 | 3 => answers_bytes,
+        _ => answers_bytes + random.below(60) as usize,
+    };
+    (0..length).map(|_| random.bits() as u8).collect()
+}

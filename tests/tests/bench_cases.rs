@@ -1,0 +1,143 @@
+//! Every reading on the bench of document 01, starred and not, and its printed
+//! example. All expected figures stand in document 01.
+
+use irga_tests::bench;
+use irga_tests::engine::{step, Answer, Entry, Event, SheetRecord, State};
+use irga_tests::file::{self, EventRecord, Session};
+use irga_tests::rules::{absolute_reading, dry_value, steps, Air, Refusal, Sheet};
+
+fn sheet() -> Sheet {
+    bench::sheet().accepted().expect("the bench sheet is within its limits")
+}
+
+fn read(air: Air, v: i64) -> Result<i64, u8> {
+    absolute_reading(&sheet(), &air, v).map_err(Refusal::number)
+}
+
+/// Runs events from a fresh engine and gives back the last answer.
+fn last_answer(sheets: &[SheetRecord], events: &[Event]) -> Answer {
+    let mut state = State::fresh();
+    let mut last = None;
+    for event in events {
+        let (answer, next) = step(sheets, &state, &Entry::Known(*event));
+        last = Some(answer);
+        state = next;
+    }
+    last.expect("at least one event")
+}
+
+const LOAD: Event = Event::Load { index: 0 };
+const CYLINDER: u32 = 1_000_000_000;
+const REFERENCE: Event = Event::Reference { cylinder: CYLINDER, e: 0 };
+
+fn sample(raw: i32) -> Event {
+    Event::Sample { raw, p: 101_300, t: 29_815, e: 0 }
+}
+
+fn span(raw: i32) -> Event {
+    Event::Span { raw, cylinder: CYLINDER, p: 101_300, t: 29_815, e: 0 }
+}
+
+fn accepted(kind: u8, m: u32, x: i64, y: i64) -> Answer {
+    Answer { kind, refusal: 0, m, x, y }
+}
+
+fn refused(kind: u8, refusal: u8) -> Answer {
+    Answer { kind, refusal, m: 0, x: 0, y: 0 }
+}
+
+#[test]
+fn around_nothing() {
+    assert_eq!(read(bench::AIR, 0), Ok(0));
+    assert_eq!(read(bench::AIR, 1), Ok(15));
+    assert_eq!(read(bench::AIR, -1), Err(7));
+}
+
+#[test]
+fn around_the_cylinder() {
+    assert_eq!(read(bench::AIR, 39_999_999), Ok(999_999_967));
+    assert_eq!(read(bench::AIR, 40_000_000), Ok(1_000_000_000));
+}
+
+#[test]
+fn over_range() {
+    assert_eq!(steps(&sheet(), &bench::AIR, 70_000_000).c, 3_010_000_000);
+    assert_eq!(read(bench::AIR, 70_000_000), Err(8));
+}
+
+#[test]
+fn other_pressure_and_warmth() {
+    assert_eq!(read(Air { p: 81_040, ..bench::AIR }, 32_000_000), Ok(1_000_000_000));
+    assert_eq!(read(Air { t: 30_411, ..bench::AIR }, 40_000_000), Ok(1_019_989_938));
+}
+
+#[test]
+fn damp_air() {
+    let damp = Air { p: 100_000, t: 29_815, e: 2_000 };
+    assert_eq!(steps(&sheet(), &damp, 40_456_000).z, 40_520_000);
+    assert_eq!(read(damp, 40_456_000), Ok(1_034_193_379));
+    assert_eq!(dry_value(1_034_193_379, &damp), 1_055_299_366);
+    let at = |e: u32| Event::Sample { raw: 40_456_000, p: 100_000, t: 29_815, e };
+    let answer = last_answer(&[bench::sheet()], &[LOAD, at(2_000)]);
+    assert_eq!(answer, accepted(6, 0, 1_034_193_379, 1_055_299_366));
+    assert_eq!(last_answer(&[bench::sheet()], &[LOAD, at(10_001)]), refused(6, 6));
+    assert_eq!(last_answer(&[bench::sheet()], &[LOAD, at(10_000)]).refusal, 0);
+}
+
+#[test]
+fn against_a_reference() {
+    let sheets = [bench::sheet()];
+    let cases = [(0, 1_000_000_000), (10_000_000, 1_388_160_000), (-10_000_000, 695_040_000)];
+    for (raw, wet) in cases {
+        let answer = last_answer(&sheets, &[LOAD, REFERENCE, sample(raw)]);
+        assert_eq!(answer, accepted(6, 40_000_000, wet, wet));
+    }
+    let narrow = [SheetRecord { k: 10_000_000, ..bench::sheet() }];
+    assert_eq!(last_answer(&narrow, &[LOAD, REFERENCE, sample(0)]), refused(6, 9));
+}
+
+#[test]
+fn span_to_the_cylinder() {
+    let sheets = [bench::sheet()];
+    let set = |raw: i32| last_answer(&sheets, &[LOAD, span(raw)]);
+    assert_eq!(set(50_000_000), accepted(3, 800_000, 0, 0));
+    assert_eq!(set(20_000_000), accepted(3, 2_000_000, 0, 0));
+    assert_eq!(set(19_999_999), refused(3, 5));
+    assert_eq!(set(80_000_000), accepted(3, 500_000, 0, 0));
+    assert_eq!(set(90_000_000), refused(3, 5));
+}
+
+#[test]
+fn area_of_three_readings_and_of_one() {
+    let sheets = [bench::sheet()];
+    let start = [LOAD, REFERENCE, Event::Start];
+    let three = [&start[..], &[sample(0), sample(10_000_000), sample(0), Event::Area]].concat();
+    assert_eq!(last_answer(&sheets, &three), accepted(9, 3, 2_776_320_000, 0));
+    let one = [&start[..], &[sample(10_000_000), Event::Stop, Event::Area]].concat();
+    assert_eq!(last_answer(&sheets, &one), accepted(9, 1, 2 * 1_388_160_000, 0));
+}
+
+#[test]
+fn zero_and_sheet_limits() {
+    let sheets = [bench::sheet()];
+    let zero = |raw: i32| last_answer(&sheets, &[LOAD, Event::Zero { raw }]);
+    assert_eq!(zero(20_000_000), accepted(2, 0, 20_000_000, 0));
+    assert_eq!(zero(20_000_001), refused(2, 3));
+    let without_a1 = [SheetRecord { a1: 0, ..bench::sheet() }];
+    assert_eq!(last_answer(&without_a1, &[LOAD]), refused(1, 2));
+}
+
+#[test]
+fn printed_example() {
+    let events = [LOAD, REFERENCE, sample(10_000_000), Event::Area];
+    let session = Session {
+        sheets: vec![bench::sheet()],
+        events: events.iter().map(EventRecord::of).collect(),
+    };
+    let printed = file::program(&session.to_bytes());
+    let expected = "1 1 0 0 0 0\n\
+                    2 4 0 0 0 0\n\
+                    3 6 0 40000000 1388160000 1388160000\n\
+                    4 9 10 0 0 0\n";
+    assert_eq!(printed, expected);
+}

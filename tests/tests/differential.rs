@@ -1,0 +1,179 @@
+//! The engine under test beside this implementation. IRGA_PROGRAM names the program's
+//! executable; IRGA_SESSIONS the number of sessions. Wrong engines must be caught.
+
+use std::fs;
+use std::path::{Path, PathBuf};
+
+use irga_tests::file::{self, Outcome, Session};
+use irga_tests::harness::{Campaign, Executable, Program};
+use irga_tests::random::Random;
+use irga_tests::sessions;
+
+fn folder() -> &'static Path {
+    Path::new(env!("CARGO_TARGET_TMPDIR"))
+}
+
+fn few(seed: u64) -> Campaign {
+    Campaign { seed, sessions: 400, folder: folder().to_path_buf() }
+}
+
+/// The program under test, if one is named.
+#[test]
+fn program_under_test_prints_the_same_lines() {
+    let Ok(path) = std::env::var("IRGA_PROGRAM") else {
+        println!("skipped: IRGA_PROGRAM does not name a program");
+        return;
+    };
+    let mut program = Executable { path: PathBuf::from(path) };
+    let campaign = Campaign::from_environment(0x6251, folder());
+    let count = campaign.against_program(&mut program).unwrap_or_else(|why| panic!("{why}"));
+    println!("{} sessions, {} events: the same lines", count.sessions, count.events);
+}
+
+/// This implementation's own program, by way of an executable and its pipes.
+#[test]
+fn own_program_agrees_with_itself() {
+    let mut program = Executable { path: PathBuf::from(env!("CARGO_BIN_EXE_session_lines")) };
+    let campaign = Campaign { sessions: 200, ..few(41) };
+    let count = campaign.against_program(&mut program).unwrap_or_else(|why| panic!("{why}"));
+    assert_eq!(count.sessions, 200);
+    let mut large = vec![0; 1_000_000];
+    large[0] = 1;
+    assert_eq!(program.print(&large).unwrap(), b"0 0 12 0 0 0\n");
+}
+
+#[test]
+fn right_engine_passes() {
+    let count = few(42).against_engine(&mut file::run).unwrap_or_else(|why| panic!("{why}"));
+    assert_eq!(count.sessions, 400);
+}
+
+/// Checks that an engine that spoils the right run is caught, that the message says
+/// why, and that the failing session is kept in the file that the message names.
+fn caught(seed: u64, says: &str, spoil: fn(&[u8], &mut [u8], &mut Outcome)) {
+    let mut wrong = |file: &[u8], output: &mut [u8]| {
+        let mut outcome = file::run(file, output);
+        spoil(file, output, &mut outcome);
+        outcome
+    };
+    let message = few(seed).against_engine(&mut wrong).expect_err("a wrong engine passed");
+    assert!(message.contains(says), "{message}");
+    let number = message.split(' ').nth(1).and_then(|word| word.parse().ok());
+    let number: u64 = number.expect("the message begins with the session's number");
+    let path = folder().join(format!("failed-{seed}-{number}.session"));
+    assert!(message.contains(path.to_str().unwrap()), "{message}");
+    let kept = fs::read(&path).expect("the session is kept");
+    assert_eq!(kept, sessions::make(seed, number).file);
+    fs::remove_file(&path).expect("the kept session can be removed");
+}
+
+fn accepted_samples<'a>(
+    output: &'a mut [u8],
+    outcome: &Outcome,
+) -> impl Iterator<Item = &'a mut [u8]> {
+    let written = outcome.written;
+    output[..written].chunks_exact_mut(24).filter(|answer| answer[0] == 6 && answer[1] == 0)
+}
+
+#[test]
+fn one_wet_value_off_by_one_is_caught() {
+    caught(51, "answer", |_, output, outcome| {
+        if let Some(answer) = accepted_samples(output, outcome).nth(3) {
+            answer[8] = answer[8].wrapping_add(1);
+        }
+    });
+}
+
+#[test]
+fn one_cleared_byte_after_the_answers_is_caught() {
+    caught(52, "after the answers was touched", |_, output, outcome| {
+        if let Some(byte) = output[outcome.written..].last_mut() {
+            *byte = 0;
+        }
+    });
+}
+
+#[test]
+fn a_touched_buffer_of_a_refused_file_is_caught() {
+    caught(53, "byte 0 after the answers was touched", |_, output, outcome| {
+        if let (12 | 13, Some(byte)) = (outcome.status, output.first_mut()) {
+            *byte ^= 1;
+        }
+    });
+}
+
+#[test]
+fn wrong_status_and_wrong_length_are_caught() {
+    caught(54, "expected Outcome", |_, _, outcome| {
+        if outcome.status == 13 {
+            outcome.status = 12;
+        }
+    });
+    caught(55, "expected Outcome", |_, _, outcome| {
+        outcome.written += usize::from(outcome.written > 480);
+    });
+}
+
+#[test]
+fn a_repeated_first_reading_is_caught() {
+    caught(56, "answer", |_, output, outcome| {
+        let mut first: Option<[u8; 24]> = None;
+        for answer in accepted_samples(output, outcome) {
+            let mut kept = [0; 24];
+            kept.copy_from_slice(answer);
+            answer.copy_from_slice(first.get_or_insert(kept));
+        }
+    });
+}
+
+/// An engine that lets a malformed sample pass by without closing the integration.
+#[test]
+fn a_malformed_sample_that_does_not_close_is_caught() {
+    caught(57, "answer", |bytes, output, outcome| {
+        let Some(mut session) = Session::open(bytes).filter(|_| outcome.status == 0) else {
+            return;
+        };
+        for record in &mut session.events {
+            if record.kind == 6 && record.entry() == irga_tests::engine::Entry::Malformed(6) {
+                record.kind = 60;
+            }
+        }
+        let mut other = vec![0; outcome.written];
+        file::run(&session.to_bytes(), &mut other);
+        for (answer, changed) in output.chunks_exact_mut(24).zip(other.chunks_exact(24)) {
+            answer[1..].copy_from_slice(&changed[1..]);
+        }
+    });
+}
+
+struct WrongProgram(fn(String) -> String);
+
+impl Program for WrongProgram {
+    fn print(&mut self, input: &[u8]) -> Result<Vec<u8>, String> {
+        Ok(self.0(file::program(input)).into_bytes())
+    }
+}
+
+#[test]
+fn wrong_programs_are_caught() {
+    let wrong: [fn(String) -> String; 4] = [
+        |text| text.replace(" 10 0 0 0\n", " 10 0 0 1\n"),
+        |text| text.trim_end().to_string(),
+        |text| text.replace("0 0 12 0 0 0\n", ""),
+        |text| text.replace('\n', "\r\n"),
+    ];
+    for spoil in wrong {
+        let message = few(58).against_program(&mut WrongProgram(spoil)).expect_err("passed");
+        assert!(message.contains("expected the line"), "{message}");
+    }
+}
+
+/// A session can be made again from its seed and number.
+#[test]
+fn sessions_are_the_same_each_time() {
+    for number in 0..50 {
+        assert_eq!(sessions::make(7, number).file, sessions::make(7, number).file);
+    }
+    let mut random = Random::new(1);
+    assert!(sessions::lent_output(&mut random, 0).len() < 60);
+}

@@ -1,0 +1,137 @@
+//! Demand 3 over invented sessions: every accepted sample, area and reference signal
+//! lies within its distance of the exact ledger. The verdicts are taken on whole
+//! numbers by multiplying across; the printed figures are only to look at.
+
+use std::path::Path;
+use std::time::Instant;
+
+use irga_tests::bench;
+use irga_tests::engine::{step, Answer, Entry, Event, State};
+use irga_tests::file::{self, Session};
+use irga_tests::harness::{Campaign, Count};
+use irga_tests::ledger::{Distances, Ledger};
+use irga_tests::random::Random;
+use irga_tests::sessions::{session, PROFILES};
+
+fn campaign(seed: u64) -> Campaign {
+    Campaign::from_environment(seed, Path::new(env!("CARGO_TARGET_TMPDIR")))
+}
+
+fn print(met: &Distances) {
+    println!("wet absolute       {:10.3} of 1,100", met.wet_absolute);
+    println!("wet against        {:10.3} of 1,800", met.wet_against);
+    println!("dry                {:10.3} of 2,000", met.dry);
+    println!("area, of allowed   {:10.5} of 1", met.area_share);
+    println!("R below cylinder   {:10.3} of 450", met.below_cylinder);
+    println!("R - 1 above it     {:10.3} of 450", met.above_cylinder);
+}
+
+/// Sessions must reach every refusal and have many accepted events of every kind,
+/// or agreement over them would say little.
+fn assert_wide(count: &Count) {
+    for number in 1..=11 {
+        assert!(count.refused_with(number) > 0, "no event was refused with {number}");
+    }
+    for status in [0, 12, 13] {
+        assert!(count.statuses[status] > 0, "no run ended with status {status}");
+    }
+    for kind in 1..=9 {
+        let accepted = count.answers[kind][0];
+        assert!(10 * accepted > count.sessions, "kind {kind}: {accepted} accepted");
+    }
+    assert!(count.samples_against > count.sessions);
+    assert!(count.answers[6][0] - count.samples_against > count.sessions);
+}
+
+/// Run with --nocapture to see the worst distances and the pace.
+#[test]
+fn ledger_over_invented_sessions() {
+    let campaign = campaign(0x1262);
+    let began = Instant::now();
+    let count = campaign.against_engine(&mut file::run).unwrap_or_else(|why| panic!("{why}"));
+    let seconds = began.elapsed().as_secs_f64();
+    let pace = count.sessions as f64 / seconds;
+    println!("{} sessions, {} events, {pace:.0} sessions a second", count.sessions, count.events);
+    for kind in 1..=9 {
+        println!(
+            "kind {kind}: accepted {}, then 1 to 11: {:?}",
+            count.answers[kind][0],
+            &count.answers[kind][1..12]
+        );
+    }
+    println!("accepted samples against a reference: {}", count.samples_against);
+    print(&count.met);
+    assert_wide(&count);
+}
+
+/// Each profile for itself, so that none hides behind the others.
+#[test]
+fn ledger_over_each_profile() {
+    for profile in PROFILES {
+        let mut random = Random::new(31);
+        for number in 0..20 {
+            let made: Session = session(&mut random, &profile);
+            let answers = made.answers();
+            let entries = made.events.iter().map(|record| record.entry());
+            let checked = irga_tests::ledger::check_list(&made.sheets, entries, &answers);
+            assert!(checked.is_ok(), "{} {number}: {checked:?}", profile.name);
+        }
+    }
+}
+
+/// One event for the engine and the ledger; gives back the answer.
+fn both(state: &mut State, ledger: &mut Ledger, met: &mut Distances, event: Event) -> Answer {
+    let sheets = [bench::sheet()];
+    let entry = Entry::Known(event);
+    let (answer, next) = step(&sheets, state, &entry);
+    *state = next;
+    met.join(&ledger.check(&sheets, &entry, &answer).unwrap_or_else(|why| panic!("{why}")));
+    answer
+}
+
+/// The 600,000th reading is counted and closes the integration; later ones are read
+/// and not counted, and the area stays.
+#[test]
+fn an_integration_longer_than_any_file() {
+    let (mut state, mut ledger) = (State::fresh(), Ledger::fresh());
+    let mut met = Distances::default();
+    let mut random = Random::new(32);
+    let mut feed = |event: Event| both(&mut state, &mut ledger, &mut met, event);
+    feed(Event::Load { index: 0 });
+    feed(Event::Zero { raw: 12_345 });
+    feed(Event::Span { raw: 40_000_000, cylinder: 900_000_000, p: 99_000, t: 30_000, e: 1_000 });
+    feed(Event::Start);
+    let rooms = [(101_300, 29_815, 0), (98_765, 30_123, 2_345), (60_000, 32_315, 6_000)];
+    let mut areas = Vec::new();
+    for number in 1..=600_100u32 {
+        let (p, t, e) = random.pick(&rooms);
+        let raw = random.between(13_000, 30_000_000) as i32;
+        assert_eq!(feed(Event::Sample { raw, p, t, e }).refusal, 0);
+        if number >= 599_999 {
+            areas.push(feed(Event::Area));
+        }
+    }
+    assert_eq!((areas[0].m, areas[1].m), (599_999, 600_000));
+    assert!(areas[1..].iter().all(|area| *area == areas[1]), "closed at 600,000");
+    assert_eq!(feed(Event::Stop).refusal, 10);
+    print(&met);
+}
+
+/// A series against a reference gas in changing rooms, read after every sample.
+#[test]
+fn a_running_area_read_after_every_sample() {
+    let (mut state, mut ledger) = (State::fresh(), Ledger::fresh());
+    let mut met = Distances::default();
+    let mut random = Random::new(33);
+    let mut feed = |event: Event| both(&mut state, &mut ledger, &mut met, event);
+    feed(Event::Load { index: 0 });
+    feed(Event::Reference { cylinder: 400_000_000, e: 1_500 });
+    feed(Event::Start);
+    for number in 1..=400u32 {
+        let p = random.between(95_000, 95_039) as u32;
+        let t = random.between(29_000, 31_000) as u32;
+        let raw = random.between(-4_000_000, 9_000_000) as i32;
+        assert_eq!(feed(Event::Sample { raw, p, t, e: 1_200 }).refusal, 0);
+        assert_eq!(feed(Event::Area).m, number);
+    }
+}

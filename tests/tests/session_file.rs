@@ -1,0 +1,158 @@
+//! The session file by bytes: header, length, records, the lent output, and the
+//! program's limit. The expected bytes are laid out by hand from document 01.
+
+use irga_tests::bench;
+use irga_tests::engine::{Entry, Event};
+use irga_tests::file::{self, EventRecord, Outcome, Session};
+
+fn word(bytes: &mut Vec<u8>, number: u32) {
+    bytes.extend(number.to_le_bytes());
+}
+
+/// One bench sheet; a load, and a sample of raw −2.
+fn by_hand() -> Vec<u8> {
+    let mut bytes = Vec::new();
+    for number in [1, 16, 2, 40] {
+        word(&mut bytes, number);
+    }
+    for number in [150_000_000, 5_000_000, 5_000_000, 29_815, 200_000_000, 0] {
+        word(&mut bytes, number);
+    }
+    for number in [1, 0, 0, 0, 0, 0] {
+        word(&mut bytes, number);
+    }
+    bytes.extend([6, 0, 0, 0, 0xFE, 0xFF, 0xFF, 0xFF]);
+    for number in [0, 101_300, 29_815, 7] {
+        word(&mut bytes, number);
+    }
+    bytes
+}
+
+#[test]
+fn reads_and_writes_the_layout() {
+    let session = Session::open(&by_hand()).expect("a sound file");
+    assert_eq!(session.sheets, [bench::sheet()]);
+    let entries: Vec<Entry> = session.events.iter().map(|record| record.entry()).collect();
+    let sample = Event::Sample { raw: -2, p: 101_300, t: 29_815, e: 7 };
+    assert_eq!(entries, [Entry::Known(Event::Load { index: 0 }), Entry::Known(sample)]);
+    assert_eq!(session.to_bytes(), by_hand());
+}
+
+#[test]
+fn answers_stand_at_the_start_and_the_rest_stays() {
+    let mut output = [0xAA; 51];
+    let outcome = file::run(&by_hand(), &mut output);
+    assert_eq!(outcome, Outcome { status: 0, written: 48 });
+    let mut expected = [0u8; 51];
+    expected[0] = 1;
+    expected[24] = 6;
+    expected[25] = 7;
+    expected[48..].fill(0xAA);
+    assert_eq!(output, expected);
+}
+
+#[test]
+fn a_short_output_is_13_and_stays() {
+    let mut output = [0xAA; 47];
+    assert_eq!(file::run(&by_hand(), &mut output), Outcome { status: 13, written: 0 });
+    assert_eq!(output, [0xAA; 47]);
+    let mut bad = by_hand();
+    bad.pop();
+    assert_eq!(file::run(&bad, &mut output[..3]), Outcome { status: 12, written: 0 });
+}
+
+#[test]
+fn every_header_word_and_the_length_count() {
+    let sound = by_hand();
+    for at in 0..16 {
+        for bit in 0..8 {
+            let mut file = sound.clone();
+            file[at] ^= 1 << bit;
+            let mut output = [0xAA; 96];
+            assert_eq!(file::run(&file, &mut output).status, 12, "byte {at} bit {bit}");
+            assert_eq!(output, [0xAA; 96]);
+        }
+    }
+    for length in 0..sound.len() {
+        assert_eq!(file::program(&sound[..length]), "0 0 12 0 0 0\n");
+    }
+    let mut longer = sound;
+    longer.push(0);
+    assert_eq!(file::program(&longer), "0 0 12 0 0 0\n");
+}
+
+/// A byte that is not zero makes a record malformed wherever its kind has no field.
+#[test]
+fn bytes_that_must_be_zero() {
+    let fields_of_kind: [(u8, &[usize]); 9] = [
+        (1, &[8]),
+        (2, &[4]),
+        (3, &[4, 8, 12, 16, 20]),
+        (4, &[8, 20]),
+        (5, &[]),
+        (6, &[4, 12, 16, 20]),
+        (7, &[]),
+        (8, &[]),
+        (9, &[]),
+    ];
+    for (kind, fields) in fields_of_kind {
+        for at in 1..24 {
+            let mut bytes = [0u8; 24];
+            bytes[0] = kind;
+            bytes[at] = 0x80;
+            let entry = EventRecord::from_bytes(&bytes).entry();
+            let has_field = at >= 4 && fields.contains(&(at - at % 4));
+            assert_eq!(entry == Entry::Malformed(kind), !has_field, "kind {kind} byte {at}");
+        }
+    }
+    for kind in (0..=255u8).filter(|kind| !(1..=9).contains(kind)) {
+        let record = EventRecord { kind, ..EventRecord::default() };
+        assert_eq!(record.entry(), Entry::Malformed(kind));
+    }
+}
+
+#[test]
+fn records_come_back_as_they_were() {
+    let bytes: Vec<u8> = (100..124).collect();
+    assert_eq!(EventRecord::from_bytes(&bytes).to_bytes().to_vec(), bytes);
+}
+
+#[test]
+fn counts_at_their_limits() {
+    let full = Session {
+        sheets: vec![bench::sheet(); 16],
+        events: vec![EventRecord { kind: 1, ..EventRecord::default() }; 2_700],
+    };
+    let bytes = full.to_bytes();
+    assert_eq!(bytes.len(), 65_200);
+    assert_eq!(file::program(&bytes).lines().count(), 2_700);
+    let mut more_sheets = full.clone();
+    more_sheets.sheets.push(bench::sheet());
+    more_sheets.events.truncate(4);
+    assert_eq!(file::program(&more_sheets.to_bytes()), "0 0 12 0 0 0\n");
+    let mut more_events = full;
+    more_events.sheets.truncate(1);
+    more_events.events.push(EventRecord { kind: 1, ..EventRecord::default() });
+    assert_eq!(file::program(&more_events.to_bytes()), "0 0 12 0 0 0\n");
+}
+
+#[test]
+fn an_empty_session_prints_nothing() {
+    let empty = Session::default();
+    assert_eq!(file::program(&empty.to_bytes()), "");
+    assert_eq!(file::run(&empty.to_bytes(), &mut []), Outcome { status: 0, written: 0 });
+}
+
+#[test]
+fn too_long_an_input_is_refused() {
+    for length in [65_536, 65_537, 200_000] {
+        assert_eq!(file::program(&vec![0; length]), "0 0 12 0 0 0\n");
+    }
+}
+
+#[test]
+fn a_malformed_event_keeps_its_kind_in_the_line() {
+    let record = EventRecord { kind: 200, padding: [0, 0, 9], ..EventRecord::default() };
+    let session = Session { sheets: vec![], events: vec![record] };
+    assert_eq!(file::program(&session.to_bytes()), "1 200 11 0 0 0\n");
+}

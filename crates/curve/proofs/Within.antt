@@ -9,11 +9,11 @@ use Rattle.curve.specs.declared.Sheet.{Sheet}
 use Rattle.curve.specs.declared.Air.{Air}
 use Rattle.curve.specs.Limits.{within, sheetWithin, airWithin, SheetOk, AirOk}
 
-both : (a b : Bool) → (a && b) ≡ true → (a ≡ true) × (b ≡ true)
+pub both : (a b : Bool) → (a && b) ≡ true → (a ≡ true) × (b ≡ true)
 both true b e = (refl, e)
 both false b e = absurd (subst T (sym e) tt)
 
-range : (low high n : ℕ) → within low high n ≡ true → (low ≤ n) × (n ≤ high)
+pub range : (low high n : ℕ) → within low high n ≡ true → (low ≤ n) × (n ≤ high)
 range low high n e = let w = both (leb low n) (leb n high) e in (leb-true low n (w .0), leb-true n high (w .1))
 
 in-range : (low high n : ℕ) → low ≤ n → n ≤ high → within low high n ≡ true

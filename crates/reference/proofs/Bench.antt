@@ -1,6 +1,6 @@
 -- The starred reference and span cases hold. A search is decided by the neighbours of what it finds, and not by its 40,000,000
 -- steps. Assumes nothing.
-use mathlib.Core.Path.{_≡_, refl}
+use mathlib.Core.Path.{_≡_, refl, ap}
 use mathlib.Core.Bool.{Bool, true, false}
 use Prim.Native.Nat.{ℕ, suc, _+_, _≤_, _<_}
 use native.Mathlib.Omega.{arith}
@@ -18,7 +18,7 @@ use Rattle.reference.specs.declared.Found.{Found}
 use Rattle.reference.specs.declared.Found.the-variants.{At, Nothing}
 use Rattle.reference.specs.declared.Sought.the-variants.{Signal, Span}
 use Rattle.reference.specs.Signal.{signalOf, againstOf}
-use Rattle.reference.specs.Search.{least, serves, referenceOf, spanOf}
+use Rattle.reference.specs.Search.{least, serves, referenceRefusal, spanRefusal, referenceOf, spanOf}
 use Rattle.reference.specs.Sought.{soughtReading}
 use Rattle.reference.specs.Bench.{smallSheet, StarredReferences}
 use Rattle.reference.proofs.Least.{either, least-none, least-at}
@@ -71,10 +71,10 @@ starred-references =
       raw-0 = refl;
       raw-10000000 = refl;
       raw-minus = refl;
-      k-10000000 = none-between _ small-signals 1000000000 0 150000001 9999999 refl refl refl;
+      k-10000000 = ap referenceRefusal (none-between _ small-signals 1000000000 0 150000001 9999999 refl refl refl);
       span-800000 = by-neighbours _ (spans 50000000 (omega arith) (leZ-yes tt)) 1000000000 500000 1500001 799999 (omega arith) (omega arith) refl refl refl;
       span-2000000 = by-neighbours _ (spans 20000000 (omega arith) (leZ-yes tt)) 1000000000 500000 1500001 1999999 (omega arith) (omega arith) refl refl refl;
-      span-beyond = none-to _ (spans 19999999 (omega arith) (leZ-yes tt)) 1000000000 500000 1500001 2000000 (omega arith) refl refl;
+      span-beyond = ap spanRefusal (none-to _ (spans 19999999 (omega arith) (leZ-yes tt)) 1000000000 500000 1500001 2000000 (omega arith) refl refl);
       span-500000 = by-neighbours _ (spans 80000000 (omega arith) (leZ-yes tt)) 1000000000 500000 1500001 499999 (omega arith) (omega arith) refl refl refl;
       span-below = refl;
     }

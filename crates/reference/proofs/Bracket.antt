@@ -1,7 +1,7 @@
 -- The two facts that others need of a reference signal R: at R the reading is accepted and at least the cylinder, and at
 -- R − 1, if R is above 0, it is accepted and below the cylinder. Assumes nothing.
 use mathlib.Core.Path.{_≡_, refl, sym, subst}
-use mathlib.Core.Bool.{Bool, true, false}
+use mathlib.Core.Bool.{Bool, true, false, cond}
 use Prim.Native.Nat.{ℕ, suc, _≤_, _<_}
 use native.Mathlib.Omega.{arith}
 use lib.Dec.{T}
@@ -17,9 +17,9 @@ use Rattle.curve.specs.Limits.{SheetOk, AirOk}
 use Rattle.curve.specs.Absolute.{absoluteOf}
 use Rattle.curve.proofs.Accepted.{not-value, not-below-zero}
 use Rattle.curve.proofs.Order.{NotAbove, from-below, values, to-over}
-use Rattle.reference.specs.declared.Found.the-variants.{At}
+use Rattle.reference.specs.declared.Found.the-variants.{At, Nothing}
 use Rattle.reference.specs.declared.Sought.the-variants.{Signal}
-use Rattle.reference.specs.Search.{serves, referenceOf}
+use Rattle.reference.specs.Search.{least, serves, referenceOf, readingUnder, spanOf}
 use Rattle.reference.proofs.Least.{First, least-first}
 use Rattle.reference.proofs.Serving.{sought-rises}
 
@@ -59,3 +59,15 @@ module _ (s : Sheet) (a : Air) (cylinder : ℕ) where
   below-reference okS okA v e =
       falls-short cylinder (sought-rises s a okS okA Signal 0 (omega arith) v (suc v) (omega arith)) (at-reference (suc v) e .value)
       (not-below-zero s (pos v) a (nonnegative v)) (first (suc v) e .0 .before v (omega arith) (omega arith))
+
+-- ---- a span setting lies in its range
+pub span-range : (s : Sheet) (raw q : ℤ) (cylinder : ℕ) (a : Air) (span : ℕ) → spanOf s raw q cylinder a ≡ At span → (500000 ≤ span) × (span ≤ 2000000)
+unfolding spanOf
+span-range s raw q cylinder a span e = go (serves cylinder (readingUnder s raw q a 499999)) e
+  where
+    none : Nothing ≡ At span → ⊥
+    none p = let z : _≡_ {A = ℕ} 0 1 = cc in omega arith
+
+    go : (t : Bool) → cond t Nothing (least (λ (n : ℕ). serves cylinder (readingUnder s raw q a n)) 500000 1500001) ≡ At span → (500000 ≤ span) × (span ≤ 2000000)
+    go true p = absurd (none p)
+    go false p = let w = least-first (λ (n : ℕ). serves cylinder (readingUnder s raw q a n)) 500000 1500001 span p in (w .0 .low, omega (arith, w .1))

@@ -1,0 +1,7 @@
+pub mod Sizes
+pub mod Workable
+pub mod Tallies
+pub mod Samples
+pub mod Lines
+pub mod Demand3
+pub mod Bench

@@ -1,0 +1,22 @@
+-- `absolute` meets its contract. Assumes nothing.
+use borrow.Author.Needs.{needs}
+use Rattle.engine.proofs.rules.absolute.Statement.{statement}
+use Rattle.engine.proofs.rules.absolute.Tie as tie
+
+enum-told : tie.Need-enum-told
+enum-told c = search needs
+
+enum-told-2 : tie.Need-enum-told-2
+enum-told-2 c = search needs
+
+refuse-requires : tie.Need-refuse-requires
+refuse-requires c κs = search needs
+
+returns : tie.Need-returns
+returns c = rw (c .refuse .ensures, c .before .enum-told2 .given .1)
+
+returns-2 : tie.Need-returns-2
+returns-2 c = rw (c .before .enum-told .given .1) (search needs)
+
+pub absolute-spec : {M : Type 1} → statement M
+absolute-spec = tie.close (tie.spec enum-told enum-told-2 refuse-requires returns returns-2)

@@ -1,0 +1,27 @@
+-- `load` meets its contract: by what the lookup gives. Assumes nothing.
+use borrow.Author.Needs.{needs}
+use Rattle.engine.proofs.rules.load.Statement.{statement}
+use Rattle.engine.proofs.rules.load.Tie as tie
+
+find-sheet-requires : tie.Need-find-sheet-requires
+find-sheet-requires c κs = search needs
+
+enum-known-s : tie.Need-enum-known-s
+enum-known-s c = search needs
+
+enum-known-number : tie.Need-enum-known-number
+enum-known-number c = search needs
+
+refuse-requires : tie.Need-refuse-requires
+refuse-requires c κs = search needs
+
+returns : tie.Need-returns
+returns c = rw (← c .before .before .before .find-sheet .ensures, c .before .s .given .1)
+
+returns-2 : tie.Need-returns-2
+returns-2 c = rw (c .refuse .ensures, ← c .before .before .before .before .find-sheet .ensures, c .before .before .number .given .1)
+
+pub load-spec : {M : Type 1} → statement M
+load-spec =
+    tie.close
+    (tie.spec find-sheet-requires enum-known-s enum-known-number refuse-requires returns returns-2)

@@ -1,0 +1,9 @@
+pub mod Answer
+pub mod Sheets
+pub mod Sample
+pub mod Integration
+pub mod Rules
+pub mod Step
+pub mod Ledger
+pub mod Claim
+pub mod Bench

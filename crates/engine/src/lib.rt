@@ -1,0 +1,167 @@
+// Document 01, "Engine and events": the state, the nine kinds of event, and one step.
+ghost use mathlib.Core.Path.{_≡_};
+ghost use mathlib.Core.Bool.{true};
+ghost use Rattle.engine.specs.Rules.{fresh, eventRule};
+ghost use Rattle.engine.specs.Step.{stepOf};
+ghost use Rattle.engine.specs.Step.{workable as Step·workable};
+use crate::limits::workable;
+use crate::rules::absolute;
+use crate::rules::area;
+use crate::rules::load;
+use crate::rules::malformed;
+use crate::rules::reference;
+use crate::rules::refuse;
+use crate::rules::sample;
+use crate::rules::span;
+use crate::rules::start;
+use crate::rules::stop;
+use crate::rules::zero;
+use curve::Sheet;
+
+mod counting;
+mod limits;
+mod rules;
+mod sample;
+mod sheets;
+mod widths;
+
+// The loaded sheet, or none.
+pub enum Loaded {
+    Nothing,
+    One(Sheet),
+}
+
+// A reference gas: the cylinder Cr and its vapour pressure er.
+pub struct Cylinder {
+    pub c: u64,
+    pub e: u64,
+}
+
+pub enum Mode {
+    Absolute,
+    Against(Cylinder),
+}
+
+// What an integration keeps of its wet values: how many, the first, the last and their sum.
+pub struct Tally {
+    pub n: u64,
+    pub first: i64,
+    pub last: i64,
+    pub sum: i64,
+}
+
+pub enum Integration {
+    Idle,
+    Running(Tally),
+    Closed(Tally),
+}
+
+// Zero is q, span is s.
+pub struct State {
+    pub loaded: Loaded,
+    pub q: i64,
+    pub s: u64,
+    pub mode: Mode,
+    pub integration: Integration,
+}
+
+// What the analyser and the room give, at the file's widths.
+pub struct Measurement {
+    pub raw: i32,
+    pub p: u32,
+    pub t: u32,
+    pub e: u32,
+}
+
+// The nine kinds, each with its own fields at the file's widths.
+pub enum Event {
+    Load { index: u32 },
+    Zero { raw: i32 },
+    Span { at: Measurement, cylinder: u32 },
+    Reference { cylinder: u32, e: u32 },
+    Absolute,
+    Sample { at: Measurement },
+    Start,
+    Stop,
+    Area,
+}
+
+// An element of a list of events: a known event, or one that is malformed, of which the kind byte is known.
+pub enum Entry {
+    Known(Event),
+    Malformed(u8),
+}
+
+pub enum Answer {
+    Done,
+    // The zero that was set.
+    Zeroed(i64),
+    // The span that was set.
+    Spanned(u64),
+    // The reference signal, 0 in absolute mode, and the wet and the dry value.
+    Reading { r: u64, wet: i64, dry: i64 },
+    Area { n: u64, area: i64 },
+    Refused(u8),
+}
+
+pub struct Stepped {
+    pub answer: Answer,
+    pub state: State,
+}
+
+// What a load finds at its index: a sheet, or the refusal.
+pub enum Lookup {
+    Found(Sheet),
+    Refused(u8),
+}
+
+// What a sample gives: its values, or the refusal.
+pub enum Sampled {
+    Value { r: u64, wet: i64, dry: i64 },
+    Refused(u8),
+}
+
+// The state in which a run starts.
+pub fn fresh_state() -> State
+    ensures { λ r. ⌜ r ≡ fresh ⌝ }
+{
+    State {
+        loaded: Loaded::Nothing,
+        q: 0,
+        s: 1000000,
+        mode: Mode::Absolute,
+        integration: Integration::Idle,
+    }
+}
+
+// One step, over the bytes of the list of sheets: the answer and the next state. A record that no list of events leaves may
+// hold numbers that no arithmetic fits, so it is tested once, here, and kept.
+pub fn step(sheets: &[u8], state: State, entry: Entry) -> Stepped
+    ensures { λ r. ⌜ r ≡ stepOf (now (sheets .entry)) state entry ⌝ }
+{
+    if !workable(state) {
+        return refuse(state, 1);
+    }
+    match entry {
+        Entry::Known(event) => known(sheets, state, event),
+        Entry::Malformed(kind) => malformed(state, kind),
+    }
+}
+
+// The rule of each kind.
+fn known(sheets: &[u8], st: State, event: Event) -> Stepped
+    requires { ⌜ Step·workable st ≡ true ⌝ }
+    ensures { λ r. ⌜ r ≡ eventRule (now (sheets .entry)) st event ⌝ }
+{
+    match event {
+        Event::Load { index } => load(sheets, st, index),
+        Event::Zero { raw } => zero(st, raw),
+        Event::Span { at, cylinder } => span(st, at, cylinder),
+        Event::Reference { cylinder, e } => reference(st, cylinder, e),
+        Event::Absolute => absolute(st),
+        Event::Sample { at } => sample(st, at),
+        Event::Start => start(st),
+        Event::Stop => stop(st),
+        Event::Area => area(st),
+    }
+}

@@ -1,0 +1,7 @@
+pub mod Zero
+pub mod Fits
+pub mod Turn
+pub mod Outcome
+pub mod Digits
+pub mod Pieces
+pub mod Printing

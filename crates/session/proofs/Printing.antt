@@ -1,0 +1,98 @@
+-- The loop of `print_all`: the lines put already, followed by those that the rest of the events will get, are those of the whole
+-- list, and the bytes after them stay. Assumes nothing.
+use Prim.Native.Nat.{ℕ, suc, _+_, _-_, _*_, _<_, _≤_}
+use native.Mathlib.Omega.{arith}
+use mathlib.Core.Path.{_≡_, refl, sym, ap, _∙_}
+use mathlib.Core.List.{List, [], _++_}
+use lib.ListN.{length, take, drop, length-append}
+use mathlib.Core.Bool.{true, false}
+use borrow.Author.Tests.{le-leb, lt-leb}
+use Rattle.layout.specs.declared.EventRecord.{EventRecord}
+use Rattle.layout.specs.declared.AnswerRecord.{AnswerRecord}
+use Rattle.layout.specs.Fields.{splice}
+use Rattle.layout.specs.Records.{eventAt}
+use Rattle.layout.proofs.Splices.{splice-none}
+use Rattle.layout.proofs.Splices.{next as splice-next}
+use Rattle.engine.specs.declared.State.{State}
+use Rattle.engine.specs.declared.Stepped.{Stepped}
+use Rattle.engine.specs.Rules.{fresh}
+use Rattle.engine.specs.Step.{stepOf}
+use Rattle.session.specs.Header.{sheetCount, eventCount, wellFormed, eventsFrom}
+use Rattle.session.specs.Entries.{entryOf}
+use Rattle.session.specs.Room.{lineRoom}
+use Rattle.session.specs.Run.{recordOf, answersFrom}
+use Rattle.session.specs.Text.{decimal, signedDecimal, lineOf, linesFrom, refusedLine, printedOf}
+
+-- the lines of the answers to count events from an offset on
+abbrev pub textFrom : List ℕ → State → List ℕ → ℕ → ℕ → ℕ → List ℕ
+textFrom sheets st file at count ordinal = linesFrom ordinal (answersFrom sheets st (eventsFrom file at count))
+
+-- i of n events have their lines, up to the position `at`; `out` was `out₀`, and the engine is at `st`
+pub record Printing (sheets file : List ℕ) (from n : ℕ) (out₀ out : List ℕ) (st : State) (at i : ℕ) : Type 0 where
+  pub passed : i ≤ n
+  pub kept : length out ≡ length out₀
+  pub room : at ≤ lineRoom * i
+  pub ends : at + length (textFrom sheets st file (from + 24 * i) (n - i) (i + 1)) ≡ length (textFrom sheets fresh file from n 1)
+  pub whole : splice out at (textFrom sheets st file (from + 24 * i) (n - i) (i + 1)) ≡ splice out₀ 0 (textFrom sheets fresh file from n 1)
+
+module _ {sheets file : List ℕ} {from n : ℕ} {out₀ : List ℕ} where
+  pub printing : Printing sheets file from n out₀ out₀ fresh 0 0
+  printing =
+      let p : from + 24 * 0 ≡ from = omega arith in
+      let m : n - 0 ≡ n = omega arith in
+      record { passed = omega arith; kept = refl; room = omega arith; ends = rw (p, m) (omega arith); whole = rw (p, m) }
+
+  module _ {out : List ℕ} {st : State} {at i : ℕ} (a : Printing sheets file from n out₀ out st at i) where
+    -- what one event adds
+    more : {r : EventRecord} {s : Stepped} → i < n → r ≡ eventAt file (from + 24 * i) → s ≡ stepOf sheets st (entryOf r)
+        → textFrom sheets st file (from + 24 * i) (n - i) (i + 1)
+        ≡ lineOf (i + 1) (recordOf (r .kind) (s .answer)) ++ textFrom sheets (s .state) file (from + 24 * (i + 1)) (n - (i + 1)) (i + 1 + 1)
+    more h e f =
+        let m : n - i ≡ suc (n - (i + 1)) = omega arith in
+        let p : from + 24 * (i + 1) ≡ from + 24 * i + 24 = omega arith in
+        rw (m, p, f, e)
+
+    pub printed : {r : EventRecord} {s : Stepped} {b : AnswerRecord} {out′ : List ℕ} {at′ : ℕ} → lineRoom * n ≤ length out₀ → i < n
+        → r ≡ eventAt file (from + 24 * i) → s ≡ stepOf sheets st (entryOf r) → b ≡ recordOf (r .kind) (s .answer)
+        → at′ ≡ at + length (lineOf (i + 1) b) → out′ ≡ splice out at (lineOf (i + 1) b) → length (lineOf (i + 1) b) ≤ lineRoom → length out′ ≡ length out
+        → Printing sheets file from n out₀ out′ (s .state) at′ (i + 1)
+    printed {r} {s} {b} {out′} {at′} fits h e f g q o l k =
+        let rest = textFrom sheets (s .state) file (from + 24 * (i + 1)) (n - (i + 1)) (i + 1 + 1) in
+        let line = lineOf (i + 1) b in
+        let d : textFrom sheets st file (from + 24 * i) (n - i) (i + 1) ≡ line ++ rest = rw g (more h e f) in
+        let j = a .kept in let z = a .room in
+        record {
+          passed = omega arith;
+          kept = omega arith;
+          room = omega arith;
+          ends = rw q (let w = rw d at (a .ends) in omega (arith, length-append line rest));
+          whole = rw (o, q, splice-next out line rest at (length line) refl (omega arith), ← d) (a .whole);
+        }
+
+    pub finished : n ≤ i → (at ≡ length (textFrom sheets fresh file from n 1)) × (out ≡ splice out₀ 0 (textFrom sheets fresh file from n 1)) × (at ≤ lineRoom * n)
+    finished h =
+        let m : n - i ≡ 0 = omega (arith, a .passed) in
+        let z = a .room in let y = a .passed in
+        (omega (arith, rw m at (a .ends)), sym (splice-none out at) ∙ rw m at (a .whole), omega arith)
+
+-- ---- what a file prints, in the three cases
+pub refused-length : length refusedLine ≡ 13
+unfolding lineOf decimal signedDecimal
+refused-length = refl
+
+module _ (file : List ℕ) where
+  pub prints-long : 65536 < length file → printedOf file ≡ refusedLine
+  unfolding printedOf
+  prints-long h = rw (lt-leb (length file) 65536 h)
+
+  pub prints-refused : length file ≤ 65536 → wellFormed file ≡ false → printedOf file ≡ refusedLine
+  unfolding printedOf
+  prints-refused h w = rw (le-leb (length file) 65536 h, w)
+
+  -- with the counts as the code has them
+  pub prints-lines : {sheets events : ℕ} → length file ≤ 65536 → wellFormed file ≡ true → sheets ≡ sheetCount file → events ≡ eventCount file
+      → printedOf file ≡ textFrom (take (16 + 24 * sheets - 16) (drop 16 file)) fresh file (16 + 24 * sheets) events 1
+  unfolding printedOf
+  prints-lines {sheets} h w s n =
+      let m : 16 + 24 * sheets - 16 ≡ 24 * sheets = omega arith in
+      rw (le-leb (length file) 65536 h, w, m, s, n)

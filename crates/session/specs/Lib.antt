@@ -1,0 +1,5 @@
+pub mod Header
+pub mod Entries
+pub mod Run
+pub mod Text
+pub mod Room

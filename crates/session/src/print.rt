@@ -1,0 +1,55 @@
+// The printed lines of a session file, as document 01's program writes them.
+ghost use mathlib.Core.Path.{_≡_};
+ghost use Prim.Native.Nat.{_+_, _*_, _≤_};
+ghost use lib.ListN.{length};
+ghost use Rattle.layout.specs.Fields.{splice};
+ghost use Rattle.engine.specs.Rules.{fresh};
+ghost use Rattle.session.specs.Header.{eventsFrom};
+ghost use Rattle.session.specs.Run.{answersFrom};
+ghost use Rattle.session.specs.Room.{lineRoom};
+ghost use Rattle.session.specs.Text.{linesFrom, printedOf};
+use crate::entries::entry_of;
+use crate::header::event_count;
+use crate::header::sheet_count;
+use crate::header::well_formed;
+use crate::run::record_of;
+use crate::text::put_line;
+use crate::text::put_refused;
+use engine::fresh_state;
+use engine::step;
+use layout::records::event_at;
+
+// Puts the lines of a file at the start of out, which has room for the longest line of each of 2,700 events, and answers how
+// long they are. A refused file has one line.
+pub fn print(file: &[u8], out: &mut [u8; 194400]) -> usize
+    ensures { λ r. ⌜ (r ≡ length (printedOf (now (file .entry)))) × (now (out .exit) ≡ splice (now (out .entry)) 0 (printedOf (now (file .entry)))) × (r ≤ length (now (out .exit))) ⌝ }
+{
+    if 65536 < file.len() {
+        return put_refused(out);
+    }
+    if !well_formed(file) {
+        return put_refused(out);
+    }
+    let events = event_count(file);
+    let from = 16 + 24 * sheet_count(file);
+    print_all(&file[16..from], file, from, events, out)
+}
+
+// Answers events that stand in the file from an offset on, and puts a line for each from the start of out.
+fn print_all(sheets: &[u8], file: &[u8], from: usize, events: usize, out: &mut [u8]) -> usize
+    requires { ⌜ (from + 24 * events ≤ length (now file)) × (events ≤ 2700) × (lineRoom * events ≤ length (now out)) ⌝ }
+    ensures { λ r. ⌜ (r ≡ length (linesFrom 1 (answersFrom (now (sheets .entry)) fresh (eventsFrom (now (file .entry)) from events)))) × (now (out .exit) ≡ splice (now (out .entry)) 0 (linesFrom 1 (answersFrom (now (sheets .entry)) fresh (eventsFrom (now (file .entry)) from events)))) × (r ≤ lineRoom * events) ⌝ }
+{
+    let mut state = fresh_state();
+    let mut at = 0;
+    let mut i: usize = 0;
+    while i < events {
+        let event = event_at(file, from + 24 * i);
+        let next = step(sheets, state, entry_of(event));
+        let answer = next.answer;
+        at = put_line(out, at, i as u32 + 1, record_of(event.kind, answer));
+        state = next.state;
+        i += 1;
+    }
+    at
+}

@@ -30,7 +30,7 @@ reference-signal-requires c κs =
     let s = c .before .before .before .before .before .before in
     let o = s .pre .1 in
     let g = gas-in (s .pre .3) (c .before .before .before .before .mode .given .1) in
-    (s .pre .0, record { p-low = o .p-low; p-high = o .p-high; t-low = o .t-low; t-high = o .t-high; e-high = c .if1 .left }, g .c)
+    (s .pre .0, record { p-low = o .p-low; p-high = o .p-high; t-low = o .t-low; t-high = o .t-high; e-high = c .if1 .left }, omega (arith, g .c))
 
 with-finding-requires : tie.Need-with-finding-requires
 with-finding-requires c κs =

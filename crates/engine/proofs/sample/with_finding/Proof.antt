@@ -19,9 +19,7 @@ enum-told : tie.Need-enum-told
 enum-told c = search needs
 
 returns : tie.Need-returns
-returns c =
-    let s = c .before .before in
-    sym (ap (λ (x : Found). withFinding (s .args .s) (s .args .v) (s .args .a) x) (c .enum-told .given .1))
+returns c = rw (c .enum-told .given .1)
 
 against-requires : tie.Need-against-requires
 against-requires c κs =

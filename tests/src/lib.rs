@@ -15,6 +15,7 @@ pub mod exact;
 pub mod file;
 pub mod harness;
 pub mod ledger;
+pub mod lesson;
 pub mod random;
 pub mod rules;
 pub mod sessions;

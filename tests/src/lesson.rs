@@ -1,0 +1,51 @@
+//! A lesson as a session: a leaf in a chamber, read against a reference gas for a minute.
+//!
+//! The analyser is that of source document 000's Table 3-1. Its converter stands 1,250
+//! units off zero and reads almost one per cent high, which zero and span take out.
+
+use crate::engine::{Event, SheetRecord};
+use crate::file::{EventRecord, Session};
+
+const CHAMBER: (u32, u32, u32) = (99_500, 29_815, 1_600);
+const ZERO: i32 = 1_250;
+
+/// Five readings a second for a minute.
+const SAMPLES: i32 = 300;
+
+fn sheet() -> SheetRecord {
+    SheetRecord {
+        a1: 142_000_000,
+        a2: 22_580_000,
+        a3: 1_787_000,
+        t0: 31_335,
+        k: 191_300_000,
+        rest: 0,
+    }
+}
+
+/// The signal against the reference: the leaf draws the chamber's CO2 down, and the
+/// converter flickers by some tens of units.
+fn raw(sample: i32) -> i32 {
+    let flicker = (sample * 37 % 21 - 10) * 40;
+    ZERO + 600_000 - 4_000 * sample + flicker
+}
+
+fn events() -> Vec<Event> {
+    let (p, t, e) = CHAMBER;
+    let mut events = vec![
+        Event::Load { index: 0 },
+        Event::Zero { raw: ZERO },
+        // A cylinder of 500 µmol/mol, dry.
+        Event::Span { raw: 24_800_000, cylinder: 500_000_000, p, t, e: 0 },
+        // A reference gas of 350 µmol/mol, dry.
+        Event::Reference { cylinder: 350_000_000, e: 0 },
+        Event::Start,
+    ];
+    events.extend((0..SAMPLES).map(|sample| Event::Sample { raw: raw(sample), p, t, e }));
+    events.extend([Event::Stop, Event::Area]);
+    events
+}
+
+pub fn session() -> Session {
+    Session { sheets: vec![sheet()], events: events().iter().map(EventRecord::of).collect() }
+}

@@ -1,0 +1,26 @@
+//! The lesson in examples/: its file is what the lesson makes, its text what this
+//! implementation prints of it.
+
+use irga_tests::{file, lesson};
+
+const FILE: &[u8] = include_bytes!("../../examples/lesson.session");
+const TEXT: &str = include_str!("../../examples/lesson.txt");
+
+#[test]
+fn the_file_is_the_lesson() {
+    assert_eq!(lesson::session().to_bytes(), FILE);
+}
+
+#[test]
+fn the_text_is_what_it_prints() {
+    assert_eq!(file::program(FILE), TEXT);
+}
+
+/// A lesson that goes well: nothing is refused, and all 300 readings are in the area.
+#[test]
+fn every_event_is_accepted() {
+    let answers = lesson::session().answers();
+    assert!(answers.iter().all(|answer| answer.refusal == 0));
+    let area = answers.last().expect("an area");
+    assert_eq!(area.m, 300);
+}

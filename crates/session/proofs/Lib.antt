@@ -5,3 +5,4 @@ pub mod Outcome
 pub mod Digits
 pub mod Pieces
 pub mod Printing
+pub mod Transcript

@@ -1,6 +1,7 @@
-// Document 01's session file: its header, its events as entries, and the run that answers them.
+// Document 01's session file: its header, its events as entries, a reader over it, the run that answers them, and its lines.
 pub mod entries;
 pub mod header;
 pub mod print;
+pub mod reader;
 pub mod run;
 pub mod text;

@@ -12,12 +12,12 @@ use crate::entries::entry_of;
 use crate::header::event_count;
 use crate::header::sheet_count;
 use crate::header::well_formed;
+use crate::reader::event_from;
 use crate::run::record_of;
 use crate::text::put_line;
 use crate::text::put_refused;
 use engine::fresh_state;
 use engine::step;
-use layout::records::event_at;
 
 // Puts the lines of a file at the start of out, which has room for the longest line of each of 2,700 events, and answers how
 // long they are. A refused file has one line.
@@ -44,7 +44,7 @@ fn print_all(sheets: &[u8], file: &[u8], from: usize, events: usize, out: &mut [
     let mut at = 0;
     let mut i: usize = 0;
     while i < events {
-        let event = event_at(file, from + 24 * i);
+        let event = event_from(file, from + 24 * i);
         let next = step(sheets, state, entry_of(event));
         let answer = next.answer;
         at = put_line(out, at, i as u32 + 1, record_of(event.kind, answer));

@@ -1,17 +1,19 @@
 -- Two accepted readings in the same air, of raw signals d units apart under the same zero and span: their wet values differ by at
--- most 2,400 d + 2,092, against the same reference by at most 2,400 d + 3,292. Both are held against one exact value: the
+-- most 2,400 d + 2,092, against the same reference by at most 2,400 d + 3,292; V by 2 d + 1 and z by 4 d + 3. Both readings are held against one exact value: the
 -- signal of the one is at most 2d further from the exact signal of the other. Assumes nothing.
 use mathlib.Core.Path.{_≡_, ap}
 use Prim.Native.Nat.{ℕ, _+_, _*_, _≤_, _<_}
-use native.Mathlib.Nat.{le-of-mul-le-mul-left}
+use native.Mathlib.Nat.{le-of-mul-le-mul-left, mul-le-mul, mul-le-mul-left}
 use native.Mathlib.Omega.{arith}
 use lib.IntN.{ℤ, pos, natAbs, _-ℤ_, _*ℤ_}
 use Rattle.rounding.proofs.Difference.{is-eq, is-minus, is-scale, is-parts}
 use Rattle.rounding.proofs.Integers.{abs-sub, abs-mul}
+use Rattle.rounding.proofs.Nearest.{near-slope}
 use Rattle.curve.specs.declared.Sheet.{Sheet}
 use Rattle.curve.specs.declared.Air.{Air}
 use Rattle.curve.specs.declared.Reading.the-variants.{Value}
 use Rattle.curve.specs.Limits.{SheetOk, AirOk}
+use Rattle.curve.specs.Curve.{broadeningOf, reducedOf}
 use Rattle.curve.specs.Absolute.{absoluteOf}
 use Rattle.reference.specs.Signal.{signalOf, againstOf}
 use Rattle.exact.specs.Fraction.{Fraction, LiesWithin}
@@ -52,3 +54,25 @@ module _ (s : Sheet) (okS : SheetOk s) (a : Air) (okA : AirOk a) where
           slope (1 + 4 * d + 1) 2 (omega arith) (against-within (1 + 4 * d) (moved-within raw other q span d l h) r (s .k) m)
               (against-within 1 (signal-within other q span) r (s .k) m) (against-lower (exactSignal other q span) r (s .k) (signal-lower other q span) (omega arith)) b c p e,
         )
+
+-- ---- what d raw units can change in V and in z, accepted or not
+module _ (raw other q : ℤ) (span d : ℕ) (l : span ≤ 2000000) (h : natAbs (raw -ℤ other) ≤ d) where
+  pub signal-slope : natAbs (signalOf raw q span -ℤ signalOf other q span) ≤ 2 * d + 1
+  unfolding signalOf
+  signal-slope =
+      let u = (raw -ℤ q) *ℤ pos span in let v = (other -ℤ q) *ℤ pos span in
+      let R = is-parts raw in let O = is-parts other in let Q = is-parts q in
+      let same : u -ℤ v ≡ (raw -ℤ other) *ℤ pos span = is-eq (is-minus (is-scale span (is-minus R Q)) (is-scale span (is-minus O Q))) (is-scale span (is-minus R O)) (omega arith) in
+      near-slope u v 1000000 (2 * d) (omega arith) (rw (same, abs-mul (raw -ℤ other) (pos span)) (omega (arith, mul-le-mul h l)))
+
+  pub reduced-slope : (a : Air) → AirOk a → natAbs (reducedOf (signalOf raw q span) a -ℤ reducedOf (signalOf other q span) a) ≤ 4 * d + 3
+  unfolding reducedOf
+  reduced-slope a okA =
+      let u = signalOf raw q span in let v = signalOf other q span in let U = is-parts u in let W = is-parts v in
+      let same : u *ℤ pos 10130000 -ℤ v *ℤ pos 10130000 ≡ (u -ℤ v) *ℤ pos 10130000 = is-eq (is-minus (is-scale 10130000 U) (is-scale 10130000 W)) (is-scale 10130000 (is-minus U W)) (omega arith) in
+      let z = near-slope (u *ℤ pos 10130000) (v *ℤ pos 10130000) (broadeningOf a) (4 * d + 2) (omega (arith, okA .p-low))
+      (rw (same, abs-mul (u -ℤ v) (pos 10130000)) (core (natAbs (u -ℤ v)) (broadeningOf a) signal-slope (omega (arith, okA .p-low)))) in
+      omega arith
+    where
+      core : (n D : ℕ) → n ≤ 2 * d + 1 → 6000000 ≤ D → n * 10130000 ≤ (4 * d + 2) * D
+      core n D p k = omega (arith, mul-le-mul-left (4 * d + 2) k)

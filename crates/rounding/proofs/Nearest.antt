@@ -62,6 +62,15 @@ near-close a c b h k =
     let o = of-lt (is-parts c) (is-add (is-parts a) (is-nat b)) k in
     is-le (is-parts (nearest c b)) (is-add (is-parts (nearest a b)) (is-nat 1)) (less (2 * b) (omega arith))
 
+-- two numerators at most m b apart give numbers at most m + 1 apart
+pub near-slope : (a c : ℤ) (b m : ℕ) → 0 < b → natAbs (a -ℤ c) ≤ m * b → natAbs (nearest a b -ℤ nearest c b) ≤ m + 1
+near-slope a c b m h k =
+    let r = nearest a b in let s = nearest c b in
+    let l = half-sides (near-half a b h) (is-parts r) (is-parts a) in
+    let n = half-sides (near-half c b h) (is-parts s) (is-parts c) in
+    let o = of-abs-le (m * b) (is-minus (is-parts a) (is-parts c)) k in
+    abs-le (m + 1) (is-minus (is-parts r) (is-parts s)) (less (2 * b) (omega arith)) (less (2 * b) (omega arith))
+
 pub near-exact : (m : ℤ) (b : ℕ) → 0 < b → nearest (m *ℤ pos b) b ≡ m
 near-exact m b h =
     let q = nearest (m *ℤ pos b) b in

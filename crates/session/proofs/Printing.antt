@@ -5,8 +5,9 @@ use native.Mathlib.Omega.{arith}
 use mathlib.Core.Path.{_≡_, refl, sym, ap, _∙_}
 use mathlib.Core.List.{List, [], _++_}
 use lib.ListN.{length, take, drop, length-append}
-use mathlib.Core.Bool.{true, false}
-use borrow.Author.Tests.{le-leb, lt-leb}
+use mathlib.Core.Bool.{Bool, true, false}
+use borrow.Author.Tests.{le-leb, lt-leb, ne-eqb}
+use lib.Dec.{eqb}
 use Rattle.layout.specs.declared.EventRecord.{EventRecord}
 use Rattle.layout.specs.declared.AnswerRecord.{AnswerRecord}
 use Rattle.layout.specs.Fields.{splice}
@@ -21,7 +22,8 @@ use Rattle.session.specs.Header.{sheetCount, eventCount, wellFormed, eve
 use Rattle.session.specs.Entries.{entryOf}
 use Rattle.session.specs.Room.{lineRoom}
 use Rattle.session.specs.Run.{recordOf, answersFrom}
-use Rattle.session.specs.Text.{decimal, signedDecimal, lineOf, linesFrom, refusedLine, printedOf}
+use Rattle.session.specs.Text.{decimal, signedDecimal, lineOf, linesFrom, refusedLine, linesOf, printedOf, linesStatus, linesWritten, linesOutput}
+use Rattle.session.proofs.Outcome.{shape, status-0, served}
 
 -- the lines of the answers to count events from an offset on
 abbrev pub textFrom : List ℕ → State → List ℕ → ℕ → ℕ → ℕ → List ℕ
@@ -75,24 +77,56 @@ module _ {sheets file : List ℕ} {from n : ℕ} {out₀ : List ℕ} where
         let z = a .room in let y = a .passed in
         (omega (arith, rw m at (a .ends)), sym (splice-none out at) ∙ rw m at (a .whole), omega arith)
 
--- ---- what a file prints, in the three cases
+-- ---- the four promises of the lines in a lent buffer
+abbrev pub Ends : List ℕ → List ℕ → ℕ → ℕ → List ℕ → Type 0
+Ends file out status written out′ =
+    (status ≡ linesStatus file (length out)) × ((written ≡ linesWritten file (length out)) × ((out′ ≡ linesOutput file out) × (written ≤ length out′)))
+
+module _ (file out : List ℕ) where
+  pub lines-refused : {status : ℕ} → status ≡ linesStatus file (length out) → (status ≡ 0 → ⊥) → Ends file out status 0 out
+  unfolding linesWritten linesOutput
+  lines-refused {status} e h = (e, (rw (← e, ne-eqb status 0 h), (rw (← e, ne-eqb status 0 h), omega arith)))
+
+  -- with the counts as the code has them
+  pub lines-put : {status sheets events written : ℕ} {out′ : List ℕ} → status ≡ linesStatus file (length out) → status ≡ 0 → sheets ≡ sheetCount file → events ≡ eventCount file
+      → written ≡ length (textFrom (take (16 + 24 * sheets - 16) (drop 16 file)) fresh file (16 + 24 * sheets) events 1)
+      → out′ ≡ splice out 0 (textFrom (take (16 + 24 * sheets - 16) (drop 16 file)) fresh file (16 + 24 * sheets) events 1)
+      → written ≤ length out′ → Ends file out status written out′
+  unfolding linesWritten linesOutput
+  lines-put {status} {sheets} e z s n l o h =
+      let m : 16 + 24 * sheets - 16 ≡ 24 * sheets = omega arith in
+      (e, (l ∙ rw (← e, z, m, s, n), (o ∙ rw (← e, z, m, s, n), h)))
+
+-- ---- what the program prints, in its three cases
 pub refused-length : length refusedLine ≡ 13
 unfolding lineOf decimal signedDecimal
 refused-length = refl
 
-module _ (file : List ℕ) where
+-- what a file prints, and where it stands then
+abbrev pub Prints : List ℕ → List ℕ → ℕ → List ℕ → Type 0
+Prints file out written out′ = (written ≡ length (printedOf file)) × (out′ ≡ splice out 0 (printedOf file)) × (written ≤ length out′)
+
+module _ (file out : List ℕ) where
   pub prints-long : 65536 < length file → printedOf file ≡ refusedLine
   unfolding printedOf
   prints-long h = rw (lt-leb (length file) 65536 h)
 
-  pub prints-refused : length file ≤ 65536 → wellFormed file ≡ false → printedOf file ≡ refusedLine
-  unfolding printedOf
-  prints-refused h w = rw (le-leb (length file) 65536 h, w)
+  -- with room for 2,700 lines only the header or the length is a reason
+  unformed : {status : ℕ} → lineRoom * 2700 ≤ length out → status ≡ linesStatus file (length out) → (status ≡ 0 → ⊥) → wellFormed file ≡ false
+  unformed {status} r e h = go (wellFormed file) refl
+    where
+      go : (w : Bool) → wellFormed file ≡ w → w ≡ false
+      go true w = absurd (h (e ∙ sym (status-0 lineRoom file (length out) w refl (omega (arith, shape file w)))))
+      go false w = refl
 
-  -- with the counts as the code has them
-  pub prints-lines : {sheets events : ℕ} → length file ≤ 65536 → wellFormed file ≡ true → sheets ≡ sheetCount file → events ≡ eventCount file
-      → printedOf file ≡ textFrom (take (16 + 24 * sheets - 16) (drop 16 file)) fresh file (16 + 24 * sheets) events 1
-  unfolding printedOf
-  prints-lines {sheets} h w s n =
-      let m : 16 + 24 * sheets - 16 ≡ 24 * sheets = omega arith in
-      rw (le-leb (length file) 65536 h, w, m, s, n)
+  pub prints-refused : {status : ℕ} {out′ : List ℕ} → length file ≤ 65536 → lineRoom * 2700 ≤ length out → status ≡ linesStatus file (length out) → (status ≡ 0 → ⊥)
+      → out′ ≡ linesOutput file out → (printedOf file ≡ refusedLine) × (out′ ≡ out)
+  unfolding printedOf linesOutput
+  prints-refused {status} l r e h o = (rw (le-leb (length file) 65536 l, unformed r e h), o ∙ rw (← e, ne-eqb status 0 h))
+
+  pub prints-lines : {status written : ℕ} {out′ : List ℕ} → length file ≤ 65536 → status ≡ 0 → Ends file out status written out′ → Prints file out written out′
+  unfolding printedOf linesWritten linesOutput
+  prints-lines {status} l z e =
+      let w = served lineRoom file (length out) (e .0) z .formed in
+      let p : printedOf file ≡ linesOf file = rw (le-leb (length file) 65536 l, w) in
+      rw p (e .1 .0 ∙ rw (← e .0, z), e .1 .1 .0 ∙ rw (← e .0, z), e .1 .1 .1)

@@ -33,9 +33,13 @@ abbrev pub answersBytes : List AnswerRecord → List ℕ
 answersBytes [] = []
 answersBytes (a ∷ rest) = answerBytes a ++ answersBytes rest
 
--- refusal 12 before refusal 13: the output is shorter than 24 × event count
-unfoldable pub statusOf : List ℕ → ℕ → ℕ
-statusOf file room = cond (wellFormed file) (cond (leb (24 * eventCount file) room) 0 13) 12
+-- refusal 12 before refusal 13: the output is shorter than so many bytes × event count
+unfoldable pub statusFor : ℕ → List ℕ → ℕ → ℕ
+statusFor each file room = cond (wellFormed file) (cond (leb (each * eventCount file) room) 0 13) 12
+
+-- of a run: 24 × event count
+abbrev pub statusOf : List ℕ → ℕ → ℕ
+statusOf file room = statusFor 24 file room
 
 -- bytes written: 0 with 12 or 13
 unfoldable pub writtenOf : List ℕ → ℕ → ℕ

@@ -2,12 +2,14 @@
 use Prim.Native.Nat.{ℕ, zero, suc, _+_, _/_, _%_}
 use mathlib.Core.Bool.{Bool, _&&_, cond}
 use mathlib.Core.List.{List, [], _∷_, _++_}
-use lib.Dec.{ltb, leb}
+use lib.Dec.{ltb, leb, eqb}
 use lib.IntN.{ℤ, pos, negsuc}
 use lib.ListN.{length}
 use Rattle.layout.specs.declared.AnswerRecord.{AnswerRecord}
+use Rattle.layout.specs.Fields.{splice}
 use Rattle.session.specs.Header.{wellFormed}
-use Rattle.session.specs.Run.{answersTo}
+use Rattle.session.specs.Room.{lineRoom}
+use Rattle.session.specs.Run.{answersTo, statusFor}
 
 -- n in decimal with no leading zeros, in at most k digits
 abbrev pub decimalIn : ℕ → ℕ → List ℕ
@@ -37,6 +39,22 @@ linesFrom ordinal (a ∷ rest) = lineOf ordinal a ++ linesFrom (ordinal + 1) res
 abbrev pub refusedLine : List ℕ
 refusedLine = lineOf 0 (record { kind = 0; refusal = 12; m = 0; x = pos 0; y = pos 0 })
 
--- ordinals from 1; a file over 65,536 bytes, or one that is not well-formed, is refused
+-- the lines of a well-formed file, ordinals from 1
+abbrev pub linesOf : List ℕ → List ℕ
+linesOf file = linesFrom 1 (answersTo file)
+
+-- what the program prints: a file over 65,536 bytes, or one that is not well-formed, is refused
 unfoldable pub printedOf : List ℕ → List ℕ
-printedOf file = cond (leb (length file) 65536 && wellFormed file) (linesFrom 1 (answersTo file)) refusedLine
+printedOf file = cond (leb (length file) 65536 && wellFormed file) (linesOf file) refusedLine
+
+-- ---- the lines in a lent buffer: status, bytes written and every byte, as a run has them. The buffer is to have room for the
+-- longest line of each event
+
+abbrev pub linesStatus : List ℕ → ℕ → ℕ
+linesStatus file room = statusFor lineRoom file room
+
+unfoldable pub linesWritten : List ℕ → ℕ → ℕ
+linesWritten file room = cond (eqb (linesStatus file room) 0) (length (linesOf file)) 0
+
+unfoldable pub linesOutput : List ℕ → List ℕ → List ℕ
+linesOutput file out = cond (eqb (linesStatus file (length out)) 0) (splice out 0 (linesOf file)) out

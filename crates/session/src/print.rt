@@ -7,32 +7,49 @@ ghost use Rattle.engine.specs.Rules.{fresh};
 ghost use Rattle.session.specs.Header.{eventsFrom};
 ghost use Rattle.session.specs.Run.{answersFrom};
 ghost use Rattle.session.specs.Room.{lineRoom};
-ghost use Rattle.session.specs.Text.{linesFrom, printedOf};
+ghost use Rattle.session.specs.Text.{linesFrom, printedOf, linesStatus, linesWritten, linesOutput};
 use crate::entries::entry_of;
 use crate::header::event_count;
 use crate::header::sheet_count;
-use crate::header::well_formed;
 use crate::reader::event_from;
+use crate::run::Ran;
 use crate::run::record_of;
+use crate::run::status_for;
 use crate::text::put_line;
 use crate::text::put_refused;
 use engine::fresh_state;
 use engine::step;
 
-// Puts the lines of a file at the start of out, which has room for the longest line of each of 2,700 events, and answers how
-// long they are. A refused file has one line.
+// Puts what the program prints for a file at the start of out, which has room for the longest line of each of 2,700 events, and
+// answers how long it is. A refused file has one line.
 pub fn print(file: &[u8], out: &mut [u8; 194400]) -> usize
     ensures { λ r. ⌜ (r ≡ length (printedOf (now (file .entry)))) × (now (out .exit) ≡ splice (now (out .entry)) 0 (printedOf (now (file .entry)))) × (r ≤ length (now (out .exit))) ⌝ }
 {
     if 65536 < file.len() {
         return put_refused(out);
     }
-    if !well_formed(file) {
+    let ran = lines(file, out);
+    if ran.status != 0 {
         return put_refused(out);
+    }
+    ran.written
+}
+
+// Puts a line for each event of a file at the start of a lent buffer. A refused file leaves it as it was.
+pub fn lines(file: &[u8], out: &mut [u8]) -> Ran
+    ensures { λ r. ⌜ r .status ≡ linesStatus (now (file .entry)) (length (now (out .entry))) ⌝ }
+    ensures { λ r. ⌜ r .written ≡ linesWritten (now (file .entry)) (length (now (out .entry))) ⌝ }
+    ensures { λ _. ⌜ now (out .exit) ≡ linesOutput (now (file .entry)) (now (out .entry)) ⌝ }
+    ensures { λ r. ⌜ r .written ≤ length (now (out .exit)) ⌝ }
+{
+    let status = status_for(72, file, out.len());
+    if status != 0 {
+        return Ran { status, written: 0 };
     }
     let events = event_count(file);
     let from = 16 + 24 * sheet_count(file);
-    print_all(&file[16..from], file, from, events, out)
+    let written = print_all(&file[16..from], file, from, events, out);
+    Ran { status, written }
 }
 
 // Answers events that stand in the file from an offset on, and puts a line for each from the start of out.

@@ -1,0 +1,73 @@
+-- `session::print::lines` meets its contract: refused with 12 or 13, and a line for each event. Assumes nothing.
+use native.Mathlib.Omega.{arith}
+use lib.ListN.{length}
+use borrow.Author.Needs.{needs}
+use Rattle.session.proofs.Outcome.{Served, served}
+use Rattle.session.proofs.Printing.{lines-refused, lines-put}
+use Rattle.session.proofs.print.lines.Statement.{statement}
+use Rattle.session.proofs.print.lines.Tie as tie
+
+status-for-requires : tie.Need-status-for-requires
+status-for-requires c κs = search needs
+
+returns : tie.Need-returns
+returns c = lines-refused _ (c .before .before .before .before .args .out .now) (c .before .status-for .ensures) (c .if1 .taken)
+
+-- what the file has from here on
+has : (c : tie.Else1) → Served 72 (c .before .before .before .before .args .file .now) (length (c .before .before .before .before .args .out .now))
+has c = served 72 _ _ (c .before .status-for .ensures) (c .if1 .left)
+
+event-count-requires : tie.Need-event-count-requires
+event-count-requires c κs = has c .header
+
+sheet-count-requires : tie.Need-sheet-count-requires
+sheet-count-requires c κs = has (c .before) .header
+
+mul-from : tie.Need-mul-from
+mul-from c = omega (arith, has (c .before .before), c .sheet-count .ensures)
+
+add-from : tie.Need-add-from
+add-from c = omega (arith, has (c .before .before), c .sheet-count .ensures)
+
+sub-print-all : tie.Need-sub-print-all
+sub-print-all c = search needs
+
+part-print-all-start : tie.Need-part-print-all-start
+part-print-all-start c = search needs
+
+part-print-all-end : tie.Need-part-print-all-end
+part-print-all-end c = omega (arith, has (c .before .before), c .sheet-count .ensures)
+
+print-all-requires : tie.Need-print-all-requires
+print-all-requires c κs =
+    let b = c .before .before in
+    let h = has (b .before .before) in
+    (omega (arith, h, b .sheet-count .ensures, b .before .event-count .ensures), omega (arith, h, b .before .event-count .ensures), omega (arith, h, b .before .event-count .ensures))
+
+same-length : tie.Need-same-length
+same-length c = search needs
+
+returns-2 : tie.Need-returns-2
+returns-2 c =
+    let b = c .before .before .before .before .before in
+    let d = b .before .before in
+    let e = c .before .before .print-all .ensures in
+    lines-put _ (d .before .before .before .before .args .out .now) (d .before .status-for .ensures) (d .if1 .left)
+    (b .sheet-count .ensures) (b .before .event-count .ensures) (e .0) (e .1) (omega (arith, e .2, has d, b .before .event-count .ensures))
+
+pub lines-spec : {M : Type 1} → statement M
+lines-spec =
+    tie.close
+    (tie.spec
+    status-for-requires
+    returns
+    event-count-requires
+    sheet-count-requires
+    mul-from
+    add-from
+    sub-print-all
+    part-print-all-start
+    part-print-all-end
+    print-all-requires
+    same-length
+    returns-2)

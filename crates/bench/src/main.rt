@@ -116,11 +116,15 @@ fn bench_reading() {
         e: 0,
     };
     io::write_all(STDOUT_FILENO, b"V 70000000: ");
-    let Reading::Value(c) = curve::absolute(sheet, 70000000, air) else {
-        io::write_all(STDOUT_FILENO, b"refusal 8\n");
-        return;
-    };
-    print_signed(c);
+    match curve::absolute(sheet, 70000000, air) {
+        Reading::Value(c) => print_signed(c),
+        Reading::BelowZero => {
+            io::write_all(STDOUT_FILENO, b"refusal 7");
+        }
+        Reading::OverRange => {
+            io::write_all(STDOUT_FILENO, b"refusal 8");
+        }
+    }
     io::write_all(STDOUT_FILENO, b"\n");
 }
 

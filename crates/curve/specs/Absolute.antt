@@ -10,15 +10,15 @@ use Rattle.curve.specs.declared.Reading.the-variants.{Value, BelowZero, 
 use Rattle.curve.specs.Curve.{reducedOf, wetOf}
 
 -- the paper's refusal number of a reading, 0 if accepted, and its value, 0 if refused
-abbrev pub refusalOf : Reading → ℕ
-refusalOf (Value c) = 0
-refusalOf BelowZero = 7
-refusalOf OverRange = 8
+abbrev pub readingRefusal : Reading → ℕ
+readingRefusal (Value c) = 0
+readingRefusal BelowZero = 7
+readingRefusal OverRange = 8
 
-abbrev pub valueOf : Reading → ℤ
-valueOf (Value c) = c
-valueOf BelowZero = pos 0
-valueOf OverRange = pos 0
+abbrev pub readingValue : Reading → ℤ
+readingValue (Value c) = c
+readingValue BelowZero = pos 0
+readingValue OverRange = pos 0
 
 -- the four grounds of refusal 8: V above 150,000,000; V at or above K; z above 10^8; c above 3,000,000,000
 abbrev pub signalHigh : ℤ → Bool

@@ -6,7 +6,7 @@ use Rattle.curve.specs.declared.Sheet.{Sheet}
 use Rattle.curve.specs.declared.Air.{Air}
 use Rattle.curve.specs.declared.Reading.the-variants.{Value}
 use Rattle.curve.specs.Curve.{reducedOf, dryOf}
-use Rattle.curve.specs.Absolute.{refusalOf, absoluteOf}
+use Rattle.curve.specs.Absolute.{readingRefusal, absoluteOf}
 
 -- A1 150,000,000, A2 5,000,000, A3 5,000,000, T0 29,815, K 200,000,000
 abbrev pub benchSheet : Sheet
@@ -24,7 +24,7 @@ pub record StarredReadings : Type 0 where
   pub v-0 : absoluteOf benchSheet (pos 0) benchAir ≡ Value (pos 0)
   pub v-1 : absoluteOf benchSheet (pos 1) benchAir ≡ Value (pos 15)
   -- V −1: refusal 7
-  pub v-minus-1 : refusalOf (absoluteOf benchSheet (negsuc 0) benchAir) ≡ 7
+  pub v-minus-1 : readingRefusal (absoluteOf benchSheet (negsuc 0) benchAir) ≡ 7
   pub v-39999999 : absoluteOf benchSheet (pos 39999999) benchAir ≡ Value (pos 999999967)
   pub v-40000000 : absoluteOf benchSheet (pos 40000000) benchAir ≡ Value (pos 1000000000)
   pub p-81040 : absoluteOf benchSheet (pos 32000000) (record { p = 81040; t = 29815; e = 0 }) ≡ Value (pos 1000000000)

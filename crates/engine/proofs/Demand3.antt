@@ -1,5 +1,5 @@
 -- Demand 3 holds, for every list of sheets and every list of entries of any length, from a fresh engine: one induction over the
--- list, the state and the ledger going together. And every state that a list leaves is one that the code works with. Assumes
+-- list, the state and the ledger going together. And at every state that a list leaves the code's step goes by the rules. Assumes
 -- nothing.
 use mathlib.Core.Bool.{Bool, true, cond}
 use mathlib.Core.List.{List, [], _∷_}
@@ -35,7 +35,7 @@ holds sheets st {xs} {b} h k (entry ∷ entries) =
 pub demand-3 : (sheets : List ℕ) (entries : List Entry) → Demand3 sheets entries
 demand-3 sheets entries = holds sheets fresh fresh-settings idle entries
 
--- every state that a list of events leaves from a fresh engine is one that the code steps by the rules
+-- every state that a list of events leaves from a fresh engine keeps to the limits
 left : (sheets : List ℕ) (st : State) {xs : List Fraction} {b : Bool} → Settings st → Keeps (st .integration) xs b → (entries : List Entry)
     → workable (leaves sheets st entries) ≡ true
 left sheets st h k [] = workable-is st h k
@@ -44,4 +44,6 @@ left sheets st h k (entry ∷ entries) =
     (let t = entry-good sheets st h k entry .next in left sheets (rules sheets st entry .state) (t .settings) (t .keeps) entries)
 
 pub reachable : (sheets : List ℕ) (entries : List Entry) → Reachable sheets entries
-reachable sheets entries = left sheets fresh fresh-settings idle entries
+reachable sheets entries =
+    let w = left sheets fresh fresh-settings idle entries in
+    record { within = w; by-rules = λ (entry : Entry). by-rules sheets (leaves sheets fresh entries) entry w }

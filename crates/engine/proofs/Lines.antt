@@ -35,7 +35,7 @@ use Rattle.engine.specs.declared.Stepped.{Stepped}
 use Rattle.engine.specs.declared.Lookup.{Lookup}
 use Rattle.engine.specs.declared.Sampled.{Sampled}
 use Rattle.engine.specs.Answer.{refusalOf, kindOf}
-use Rattle.engine.specs.Sheets.{sheetOf, recordWithin, sheetCount, lookupOf}
+use Rattle.engine.specs.Sheets.{asSheet, recordWithin, sheetsHeld, lookupOf}
 use Rattle.engine.specs.Sample.{airOf, inputWithin, sampledOf}
 use Rattle.engine.specs.Integration.{countedOf, closedOf, areaAnswer}
 use Rattle.engine.specs.Rules.{answered, refused, withIntegration, needingSheet, loadBy, zeroRule, spanBy, spanIn, spanRule, referenceRule, absoluteRule, sampleBy, startRule, stopIn, stopRule, areaIn, areaRule, rules}
@@ -81,10 +81,10 @@ abbrev idleWith : Loaded → ℤ → ℕ → Mode → State
 idleWith l q s m = record { loaded = l; q = q; s = s; mode = m; integration = Integration.Idle }
 
 -- a record that passes has a sheet within its limits
-record-sheet : (r : SheetRecord) → recordWithin r ≡ true → sheetWithin (sheetOf r) ≡ true
+record-sheet : (r : SheetRecord) → recordWithin r ≡ true → sheetWithin (asSheet r) ≡ true
 record-sheet r e =
     let signs = nonNeg (r .a1) && nonNeg (r .a2) && nonNeg (r .a3) in
-    both signs (sheetWithin (sheetOf r)) (both (signs && sheetWithin (sheetOf r)) (eqb (r .rest) 0) e .0) .1
+    both signs (sheetWithin (asSheet r)) (both (signs && sheetWithin (asSheet r)) (eqb (r .rest) 0) e .0) .1
 
 module _ (sheets : List ℕ) (st : State) {xs : List Fraction} {b : Bool} (h : Settings st) (k : Keeps (st .integration) xs b) where
   abbrev g : Ledger
@@ -141,18 +141,18 @@ module _ (sheets : List ℕ) (st : State) {xs : List Fraction} {b : Bool} (h : S
   -- ---- 1 load
   load-good : (index : ℕ) → Good sheets g (Entry.Known (Event.Load index)) (rules sheets st (Entry.Known (Event.Load index)))
   unfolding lookupOf ledgerStep
-  load-good index = there (ltb index (sheetCount sheets))
+  load-good index = there (ltb index (sheetsHeld sheets))
     where
       record-at : (t : Bool) → recordWithin (sheetAt sheets (24 * index)) ≡ t
-          → Good sheets g (Entry.Known (Event.Load index)) (loadBy st (cond t (Lookup.Found (sheetOf (sheetAt sheets (24 * index)))) (Lookup.Refused 2)))
+          → Good sheets g (Entry.Known (Event.Load index)) (loadBy st (cond t (Lookup.Found (asSheet (sheetAt sheets (24 * index)))) (Lookup.Refused 2)))
       record-at true e =
-          settles (Entry.Known (Event.Load index)) Answer.Done (idleWith (Loaded.One (sheetOf (sheetAt sheets (24 * index)))) (pos 0) 1000000 Mode.Absolute) tt tt
+          settles (Entry.Known (Event.Load index)) Answer.Done (idleWith (Loaded.One (asSheet (sheetAt sheets (24 * index)))) (pos 0) 1000000 Mode.Absolute) tt tt
           (record { sheet = record-sheet (sheetAt sheets (24 * index)) e; zero = omega arith; span-low = omega arith; span-high = omega arith; gas = refl }) refl refl
       record-at false e = stays (Entry.Known (Event.Load index)) 2 (omega arith) (omega arith) tt refl
 
       there : (t : Bool)
           → Good sheets g (Entry.Known (Event.Load index))
-          (loadBy st (cond t (cond (recordWithin (sheetAt sheets (24 * index))) (Lookup.Found (sheetOf (sheetAt sheets (24 * index)))) (Lookup.Refused 2)) (Lookup.Refused 1)))
+          (loadBy st (cond t (cond (recordWithin (sheetAt sheets (24 * index))) (Lookup.Found (asSheet (sheetAt sheets (24 * index)))) (Lookup.Refused 2)) (Lookup.Refused 1)))
       there true = record-at (recordWithin (sheetAt sheets (24 * index))) refl
       there false = stays (Entry.Known (Event.Load index)) 1 (omega arith) (omega arith) tt refl
 

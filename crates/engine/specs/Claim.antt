@@ -132,6 +132,8 @@ Holds sheets st g (l ∷ ls) =
 abbrev pub Demand3 : List ℕ → List Entry → Type 0
 Demand3 sheets entries = Holds sheets fresh freshLedger (transcript sheets fresh entries)
 
--- the code's step goes by the rules at every state that a list leaves
-abbrev pub Reachable : List ℕ → List Entry → Type 0
-Reachable sheets entries = workable (leaves sheets fresh entries) ≡ true
+-- the state that a list leaves: its numbers keep to the limits within which every sum fits, and the code's step goes by the
+-- rules there, whatever comes next
+pub record Reachable (sheets : List ℕ) (entries : List Entry) : Type 0 where
+  pub within : workable (leaves sheets fresh entries) ≡ true
+  pub by-rules : (entry : Entry) → stepOf sheets (leaves sheets fresh entries) entry ≡ rules sheets (leaves sheets fresh entries) entry

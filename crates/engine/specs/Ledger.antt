@@ -18,7 +18,7 @@ use Rattle.engine.specs.declared.Event.{Event}
 use Rattle.engine.specs.declared.Entry.{Entry}
 use Rattle.engine.specs.declared.Answer.{Answer}
 use Rattle.engine.specs.Answer.{mOf, accepted, kindOf}
-use Rattle.engine.specs.Sheets.{sheetOf}
+use Rattle.engine.specs.Sheets.{asSheet}
 use Rattle.engine.specs.Sample.{airOf}
 
 -- a sheet, Q, S, a mode, and a series of exact values that runs or doesn't
@@ -67,7 +67,7 @@ taken g x =
     cond (g .runs) (withSeries g (g .series ++ (x ∷ [])) (not (eqb (length (g .series) + 1) 600000))) g
 
 abbrev pub acceptedBy : List ℕ → Ledger → Entry → Answer → Ledger
-acceptedBy sheets g (Entry.Known (Event.Load index)) a = settled (Loaded.One (sheetOf (sheetAt sheets (24 * index)))) (pos 0) 1000000 Mode.Absolute
+acceptedBy sheets g (Entry.Known (Event.Load index)) a = settled (Loaded.One (asSheet (sheetAt sheets (24 * index)))) (pos 0) 1000000 Mode.Absolute
 acceptedBy sheets g (Entry.Known (Event.Zero raw)) a = settled (g .sheet) raw (g .s) (g .mode)
 acceptedBy sheets g (Entry.Known (Event.Span at cylinder)) a = settled (g .sheet) (g .q) (mOf a) (g .mode)
 acceptedBy sheets g (Entry.Known (Event.Reference cylinder e)) a = settled (g .sheet) (g .q) (g .s) (Mode.Against (record { c = cylinder; e = e }))

@@ -14,20 +14,20 @@ use Rattle.layout.specs.Records.{sheetAt}
 use Rattle.engine.specs.declared.Lookup.{Lookup}
 
 -- how many sheets the bytes hold
-abbrev pub sheetCount : List ℕ → ℕ
-sheetCount sheets = length sheets / 24
+abbrev pub sheetsHeld : List ℕ → ℕ
+sheetsHeld sheets = length sheets / 24
 
 -- a record's numbers as a sheet, for coefficients that are not below 0
-abbrev pub sheetOf : SheetRecord → Sheet
-sheetOf r = record { a1 = natAbs (r .a1); a2 = natAbs (r .a2); a3 = natAbs (r .a3); t0 = r .t0; k = r .k }
+abbrev pub asSheet : SheetRecord → Sheet
+asSheet r = record { a1 = natAbs (r .a1); a2 = natAbs (r .a2); a3 = natAbs (r .a3); t0 = r .t0; k = r .k }
 
 -- within the limits of a sheet, and its zero bytes zero
 abbrev pub recordWithin : SheetRecord → Bool
-recordWithin r = nonNeg (r .a1) && nonNeg (r .a2) && nonNeg (r .a3) && sheetWithin (sheetOf r) && eqb (r .rest) 0
+recordWithin r = nonNeg (r .a1) && nonNeg (r .a2) && nonNeg (r .a3) && sheetWithin (asSheet r) && eqb (r .rest) 0
 
 -- refusal 1: the index is not in the list; refusal 2: that sheet is outside its limits or its zero bytes are not zero
 unfoldable pub lookupOf : List ℕ → ℕ → Lookup
 lookupOf sheets index =
-    cond (ltb index (sheetCount sheets))
-    (cond (recordWithin (sheetAt sheets (24 * index))) (Lookup.Found (sheetOf (sheetAt sheets (24 * index)))) (Lookup.Refused 2))
+    cond (ltb index (sheetsHeld sheets))
+    (cond (recordWithin (sheetAt sheets (24 * index))) (Lookup.Found (asSheet (sheetAt sheets (24 * index)))) (Lookup.Refused 2))
     (Lookup.Refused 1)

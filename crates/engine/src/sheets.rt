@@ -1,6 +1,6 @@
 // The list of sheets, as the bytes of its records, and what a load finds there.
 ghost use mathlib.Core.Path.{_≡_};
-ghost use Rattle.engine.specs.Sheets.{sheetOf, recordWithin, lookupOf};
+ghost use Rattle.engine.specs.Sheets.{asSheet, recordWithin, lookupOf};
 use crate::Lookup;
 use crate::widths::non_negative;
 use crate::widths::size;
@@ -26,7 +26,7 @@ pub(crate) fn find_sheet(sheets: &[u8], index: u32) -> Lookup
 
 // A record's numbers as a sheet, for coefficients that are not below 0.
 fn sheet_of(r: SheetRecord) -> Sheet
-    ensures { λ s. ⌜ s ≡ sheetOf r ⌝ }
+    ensures { λ s. ⌜ s ≡ asSheet r ⌝ }
 {
     Sheet {
         a1: size(r.a1),

@@ -1,6 +1,7 @@
--- Two accepted readings in the same air, of raw signals d units apart under the same zero and span: their wet values differ by at
--- most 2,400 d + 2,092, against the same reference by at most 2,400 d + 3,292; V by 2 d + 1 and z by 4 d + 3. Both readings are held against one exact value: the
--- signal of the one is at most 2d further from the exact signal of the other. Assumes nothing.
+-- Two raw signals d units apart, in the same air under the same zero and span: V differs by at most 2 d + 1 and z by 4 d + 3; where
+-- both readings are accepted, their wet values differ by at most 2,400 d + 2,092, against the same reference by at most
+-- 2,400 d + 3,292. Both readings are held against one exact value: the signal of the one is at most 2 d further from the exact
+-- signal of the other. Assumes nothing.
 use mathlib.Core.Path.{_≡_, ap}
 use Prim.Native.Nat.{ℕ, _+_, _*_, _≤_, _<_}
 use native.Mathlib.Nat.{le-of-mul-le-mul-left, mul-le-mul, mul-le-mul-left}

@@ -1,4 +1,4 @@
--- What one search of the code serves: the numbers that it runs over, and the reading of each. The contracts of the two public
+-- The one search of the code, for both its uses: the numbers that it runs over, and the reading of each. The contracts of the two public
 -- searches do not need it: they cite `Search.antt` alone. Assumes nothing.
 use Prim.Native.Nat.{ℕ, _≤_}
 use lib.IntN.{ℤ, pos, natAbs, _-ℤ_}

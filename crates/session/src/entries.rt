@@ -67,6 +67,7 @@ fn known_if(zero: bool, r: EventRecord, event: Event) -> Entry
     }
 }
 
+// As a function, so that a chain of tests meets one contract and does not branch.
 fn both(a: bool, b: bool) -> bool
     ensures { λ x. ⌜ x ≡ (a && b) ⌝ }
 {

@@ -31,7 +31,7 @@ pub fn well_formed(file: &[u8]) -> bool
     }
     let sheets = sheet_count(file);
     let events = event_count(file);
-    // From here on no sum below can overflow.
+    // The counts first, so that the sums below stay small.
     if 16 < sheets {
         return false;
     }

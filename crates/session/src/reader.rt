@@ -1,5 +1,5 @@
-// A reader over the lent file: it keeps a position and yields one event. Each function over it only takes it apart or makes it:
-// the work is done by functions on a slice and a number.
+// A reader over the lent file: it keeps a position and yields the event there; `moved` sets it to another. Each function over it
+// only takes it apart or makes it: the work is done by functions on a slice and a number.
 ghost use mathlib.Core.Path.{_≡_};
 ghost use Prim.Native.Nat.{_+_, _≤_};
 ghost use lib.ListN.{length};
@@ -27,17 +27,17 @@ pub fn moved<'a>(r: Reader<'a>, at: usize) -> Reader<'a>
 }
 
 // The event at the reader's position.
-pub fn next<'a>(r: Reader<'a>) -> EventRecord
+pub fn event<'a>(r: Reader<'a>) -> EventRecord
     requires { ⌜ r .at + 24 ≤ length (now (r .src)) ⌝ }
     ensures { λ e. ⌜ e ≡ eventAt (now (r .entry .src)) (r .entry .at) ⌝ }
 {
     event_at(r.src, r.at)
 }
 
-// The event at an offset of a file. Whoever calls this one knows of no reader.
+// The event at an offset of a file, for callers with plain parameters: no proof above this one meets a held reference.
 pub fn event_from(file: &[u8], at: usize) -> EventRecord
     requires { ⌜ at + 24 ≤ length (now file) ⌝ }
     ensures { λ e. ⌜ e ≡ eventAt (now (file .entry)) at ⌝ }
 {
-    next(moved(new(file), at))
+    event(moved(new(file), at))
 }

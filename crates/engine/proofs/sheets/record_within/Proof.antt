@@ -8,7 +8,7 @@ use mir.Syntax.{w32}
 use mir.Val.{SFits}
 use lib.Signed.{nonNeg}
 use Rattle.curve.specs.Limits.{sheetWithin}
-use Rattle.engine.specs.Sheets.{sheetOf}
+use Rattle.engine.specs.Sheets.{asSheet}
 use Rattle.engine.proofs.sheets.record_within.Statement.{statement}
 use Rattle.engine.proofs.sheets.record_within.Tie as tie
 
@@ -72,7 +72,7 @@ sheet-within-requires c κs = search needs
 a3-at : (c : tie.Else3) → nonNeg (start3 (c .before) .args .r .a3) ≡ true
 a3-at c = a3-is (c .before) ∙ not-false _ (c .if3 .left)
 
-sheet-is : (c : tie.After-sheet-within) → sheetWithin (sheetOf (start3 (c .before .before .before) .args .r)) ≡ c .sheet-within .result
+sheet-is : (c : tie.After-sheet-within) → sheetWithin (asSheet (start3 (c .before .before .before) .args .r)) ≡ c .sheet-within .result
 sheet-is c = rw (← c .before .sheet-of .ensures) (sym (c .sheet-within .ensures))
 
 returns-4 : tie.Need-returns-4

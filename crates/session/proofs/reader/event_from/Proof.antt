@@ -1,4 +1,4 @@
--- `session::reader::event_from` meets its contract: a walk of its MIR, by hand. A `Reader` that one call returns is held in a local and passed to the next. All that the proof knows of `new`, `moved` and `next` is that each meets its contract.
+-- `session::reader::event_from` meets its contract: a walk of its MIR, by hand. A `Reader` that one call returns is held in a local and passed to the one after it. All that the proof knows of `new`, `moved` and `event` is that each meets its contract.
 -- In a local of a body MIR erases the lifetime of the struct's type, so the values are shown to have the type at `erased`: what the struct owns does not say the lifetime's name.
 -- Assumes nothing.
 use mathlib.Core.Path.{_≡_, refl, ap, _∙_}
@@ -52,10 +52,10 @@ use Rattle.session.proofs.reader.moved as moved
 use Rattle.session.proofs.reader.moved.Symbol as moved-def
 use Rattle.session.proofs.reader.moved.Symbol.{name as #session·reader·moved}
 use Rattle.session.proofs.reader.moved.Met as moved-thm
-use Rattle.session.proofs.reader.next as next
-use Rattle.session.proofs.reader.next.Symbol as next-def
-use Rattle.session.proofs.reader.next.Symbol.{name as #session·reader·next}
-use Rattle.session.proofs.reader.next.Met as next-thm
+use Rattle.session.proofs.reader.event as event
+use Rattle.session.proofs.reader.event.Symbol as event-def
+use Rattle.session.proofs.reader.event.Symbol.{name as #session·reader·event}
+use Rattle.session.proofs.reader.event.Met as event-thm
 use Rattle.session.proofs.reader.event_from.Key.{name as #session·reader·event-from}
 use Rattle.session.proofs.reader.event_from as event-from
 use Rattle.session.proofs.reader.event_from.Statement as stated
@@ -76,8 +76,8 @@ module _ {M : Type 1} (𝓤 : URA M) (H : Heap 𝓤) (A : Atoms 𝓤) (mem : Mem
   abbrev Moved : Contract 𝓤
   Moved = tripleOf 𝓤 H A moved.signature (moved.spec 𝓤 H A mem run)
 
-  abbrev Next : Contract 𝓤
-  Next = tripleOf 𝓤 H A next.signature (next.spec 𝓤 H A mem run)
+  abbrev Yields : Contract 𝓤
+  Yields = tripleOf 𝓤 H A event.signature (event.spec 𝓤 H A mem run)
 
 module _ {M : Type 1} (𝓤 : URA M) (H : Heap 𝓤) (A : Atoms 𝓤) (W : Given 𝓤 H A) (mem : Memory → SProp 𝓤) (run : Routine → Fun 𝓤) (κ : Lft) (q : Share) (s : RefT (List ℕ)) (n : ℕ) (ok : n < 2 ^ 64) where
   -- the machine value that s has
@@ -126,15 +126,15 @@ module _ {M : Type 1} (𝓤 : URA M) (H : Heap 𝓤) (A : Atoms 𝓤) (W : Given
   moved-said : (r m : Reader) → ent 𝓤 (ensured 𝓤 H A moved.ended (moved.clauses 𝓤 H A mem run) (κ, tt) (r, (n, tt)) tt m) (fact 𝓤 ((m .src ≡ r .src) × (m .at ≡ n)))
   moved-said r m = exE 𝓤 _ (λ ws. snd∗ 𝓤 (sem 𝓤 H A (lasts moved.ended (κ, tt) (r, (n, tt)) ws)) (fact 𝓤 ((m .src ≡ r .src) × (m .at ≡ n))))
 
-  -- the call of `next`, at the struct m with the machine value u
-  abbrev to-next : Reader → Val → Next 𝓤 H A mem run .Ghost
-  to-next m u = (((κ, tt), (q, tt), tt, (m, tt), (u ∷ [], tt)), tt)
+  -- the call of `event`, at the struct m with the machine value u
+  abbrev to-event : Reader → Val → Yields 𝓤 H A mem run .Ghost
+  to-event m u = (((κ, tt), (q, tt), tt, (m, tt), (u ∷ [], tt)), tt)
 
-  goes-next : (m : Reader) (u : Val) → m .at + 24 ≤ length (now (m .src)) → ent 𝓤 (⋆ 𝓤 H A (‵ (B (κ, tt) .own m (u ∷ [])) ∷ (‵ (flft κ q) ⊛ ‵ ftrue) ∷ [])) (Next 𝓤 H A mem run .pre (to-next m u))
-  goes-next m u within = qed W (‵ (B (κ, tt) .own m (u ∷ [])) ∷ (‵ (flft κ q) ⊛ ‵ ftrue) ∷ []) ∵ says ! within $ nothing ! $ move ! (1 ∷ 0 ∷ []) $ fjoin ! $ move ! (1 ∷ 0 ∷ []) $ frame ! $ done !
+  goes-event : (m : Reader) (u : Val) → m .at + 24 ≤ length (now (m .src)) → ent 𝓤 (⋆ 𝓤 H A (‵ (B (κ, tt) .own m (u ∷ [])) ∷ (‵ (flft κ q) ⊛ ‵ ftrue) ∷ [])) (Yields 𝓤 H A mem run .pre (to-event m u))
+  goes-event m u within = qed W (‵ (B (κ, tt) .own m (u ∷ [])) ∷ (‵ (flft κ q) ⊛ ‵ ftrue) ∷ []) ∵ says ! within $ nothing ! $ move ! (1 ∷ 0 ∷ []) $ fjoin ! $ move ! (1 ∷ 0 ∷ []) $ frame ! $ done !
 
-  next-said : (m : Reader) (t : EventRecord) → ent 𝓤 (ensured 𝓤 H A next.ended (next.clauses 𝓤 H A mem run) (κ, tt) (m, tt) tt t) (fact 𝓤 (t ≡ eventAt (now (m .src)) (m .at)))
-  next-said m t = exE 𝓤 _ (λ ws. snd∗ 𝓤 (sem 𝓤 H A (lasts next.ended (κ, tt) (m, tt) ws)) (fact 𝓤 (t ≡ eventAt (now (m .src)) (m .at))))
+  event-said : (m : Reader) (t : EventRecord) → ent 𝓤 (ensured 𝓤 H A event.ended (event.clauses 𝓤 H A mem run) (κ, tt) (m, tt) tt t) (fact 𝓤 (t ≡ eventAt (now (m .src)) (m .at)))
+  event-said m t = exE 𝓤 _ (λ ws. snd∗ 𝓤 (sem 𝓤 H A (lasts event.ended (κ, tt) (m, tt) ws)) (fact 𝓤 (t ≡ eventAt (now (m .src)) (m .at))))
 
   exits : (t : EventRecord) (u : Val) → t ≡ found → ent 𝓤 (⋆ 𝓤 H A (‵ (S.the-row .own t (u ∷ [])) ∷ (‵ (flft κ q) ⊛ ‵ ftrue) ∷ ‵ Own ∷ [])) (Post u)
   exits t u e =
@@ -146,7 +146,7 @@ module _ {M : Type 1} (𝓤 : URA M) (H : Heap 𝓤) (A : Atoms 𝓤) (W : Given
   moved-within : (m : Reader) → m .src ≡ s → m .at ≡ n → n + 24 ≤ length (now s) → m .at + 24 ≤ length (now (m .src))
   moved-within m e f within = rw (e, f) within
 
-  module _ (C : Calls 𝓤 H) (Λ : Loops 𝓤 H) (fm : FmC 𝓤 H (W .laws) C) (known-new : Triple 𝓤 (C #session·reader·new) (New 𝓤 H A mem run)) (known-moved : Triple 𝓤 (C #session·reader·moved) (Moved 𝓤 H A mem run)) (known-next : Triple 𝓤 (C #session·reader·next) (Next 𝓤 H A mem run)) where
+  module _ (C : Calls 𝓤 H) (Λ : Loops 𝓤 H) (fm : FmC 𝓤 H (W .laws) C) (known-new : Triple 𝓤 (C #session·reader·new) (New 𝓤 H A mem run)) (known-moved : Triple 𝓤 (C #session·reader·moved) (Moved 𝓤 H A mem run)) (known-event : Triple 𝓤 (C #session·reader·event) (Yields 𝓤 H A mem run)) where
     walk : Is (ShrSlice (named 0) κ u8) s (v ∷ []) → n + 24 ≤ length (now s) → ent 𝓤 (onEntry 𝓤 H A event-from.signature (κ, tt) (q, tt) (s, (n, tt)) at) (WpFn 𝓤 H C Λ code.function (v ∷ vint w64 n ∷ []) Post)
     walk p within =
         qed W (raw (onEntry 𝓤 H A event-from.signature (κ, tt) (q, tt) (s, (n, tt)) at) ∷ []) ∵ enter ! C Λ code.function (v ∷ vint w64 n ∷ []) _ $
@@ -166,10 +166,10 @@ module _ {M : Type 1} (𝓤 : URA M) (H : Heap 𝓤) (A : Atoms 𝓤) (W : Given
         -- [what the struct owns; the token; what s owns; _4; …; room for _3; …; _2; …; _1; …; room for _0; …]
         peeks ! (B (κ, tt)) (Is (B (κ, tt))) (shows 𝓤 H A (B (κ, tt))) m (u′ ∷ []) (λ is′.
         land ! (from ! (stop !)) (init ! 5 refl (LL.lawful (T.the-type αᵉ) (T′.the-laws αᵉ) 𝓤 H A W .typed m _ is′ .0)) $
-        use2 W (raw (Next 𝓤 H A mem run .pre (to-next m u′))) (goes-next m u′ (moved-within m (e′ .0 ∙ e .0) (e′ .1) within)) $
-        calls-at ! fm (Next 𝓤 H A mem run) known-next (to-next m u′) (and-then ! (load ! (from ! (stop !)) (look ! 4 refl)) (no-more !)) (λ u″.
-        use1 W (later (some (λ (t : EventRecord). ((‵ (flft κ q) ⊛ ‵ ftrue) ⊛ ‵ (S.the-row .own t (u″ ∷ []))) ⊛ raw (ensured 𝓤 H A next.ended (next.clauses 𝓤 H A mem run) (κ, tt) (m, tt) tt t)))) (id⊢ 𝓤 _) $ await ! tt $ pick ! (λ t.
-        split ! $ move ! (1 ∷ []) $ use1 W (raw (fact 𝓤 (t ≡ eventAt (now (m .src)) (m .at)))) (next-said m t) $ heard ! (t ≡ eventAt (now (m .src)) (m .at)) (λ e″. split ! $ move ! (1 ∷ []) $
+        use2 W (raw (Yields 𝓤 H A mem run .pre (to-event m u′))) (goes-event m u′ (moved-within m (e′ .0 ∙ e .0) (e′ .1) within)) $
+        calls-at ! fm (Yields 𝓤 H A mem run) known-event (to-event m u′) (and-then ! (load ! (from ! (stop !)) (look ! 4 refl)) (no-more !)) (λ u″.
+        use1 W (later (some (λ (t : EventRecord). ((‵ (flft κ q) ⊛ ‵ ftrue) ⊛ ‵ (S.the-row .own t (u″ ∷ []))) ⊛ raw (ensured 𝓤 H A event.ended (event.clauses 𝓤 H A mem run) (κ, tt) (m, tt) tt t)))) (id⊢ 𝓤 _) $ await ! tt $ pick ! (λ t.
+        split ! $ move ! (1 ∷ []) $ use1 W (raw (fact 𝓤 (t ≡ eventAt (now (m .src)) (m .at)))) (event-said m t) $ heard ! (t ≡ eventAt (now (m .src)) (m .at)) (λ e″. split ! $ move ! (1 ∷ []) $
         -- [the result; the token; what s owns; _4; …; _3; …; _2; …; _1; …; room for _0; …]
         peeks ! S.the-row (Is S.the-row) (shows 𝓤 H A S.the-row) t (u″ ∷ []) (λ is″.
         land ! (from ! (stop !)) (init ! 11 refl (LL.lawful S.the-type S′.the-laws 𝓤 H A W .typed t _ is″ .0)) $
@@ -179,18 +179,18 @@ module _ {M : Type 1} (𝓤 : URA M) (H : Heap 𝓤) (A : Atoms 𝓤) (W : Given
 
 module _ {M : Type 1} (𝓤 : URA M) (H : Heap 𝓤) (A : Atoms 𝓤) (W : Given 𝓤 H A) (mem : Memory → SProp 𝓤) (run : Routine → Fun 𝓤) where
   event-from-walks : (C : Calls 𝓤 H) (Λ : Loops 𝓤 H) → FmC 𝓤 H (W .laws) C → Triple 𝓤 (C #session·reader·new) (New 𝓤 H A mem run) → Triple 𝓤 (C #session·reader·moved) (Moved 𝓤 H A mem run)
-      → Triple 𝓤 (C #session·reader·next) (Next 𝓤 H A mem run) → Walks 𝓤 H A event-from.ended stayed (WpFn 𝓤 H C Λ code.function) (event-from.clauses 𝓤 H A mem run)
-  event-from-walks C Λ fm known-new known-moved known-next = walked 𝓤 H A event-from.ended stayed (event-from.clauses 𝓤 H A mem run) (WpFn 𝓤 H C Λ code.function)
+      → Triple 𝓤 (C #session·reader·event) (Yields 𝓤 H A mem run) → Walks 𝓤 H A event-from.ended stayed (WpFn 𝓤 H C Λ code.function) (event-from.clauses 𝓤 H A mem run)
+  event-from-walks C Λ fm known-new known-moved known-event = walked 𝓤 H A event-from.ended stayed (event-from.clauses 𝓤 H A mem run) (WpFn 𝓤 H C Λ code.function)
       (λ κs. (slice-vals, (uint-vals w64, tt))) (λ κs. (shr-slice-tells (named 0) (κs .0) u8, (uint-tells w64, tt)))
       (λ κs qs bounds a g are. needs 𝓤 (a .1 .0 + 24 ≤ length (now (a .0))) _ (λ within.
-      walk 𝓤 H A W mem run (κs .0) (qs .0) (a .0) (a .1 .0) (are .1 .0 .1) C Λ fm known-new known-moved known-next (are .0) within))
+      walk 𝓤 H A W mem run (κs .0) (qs .0) (a .0) (a .1 .0) (are .1 .0 .1) C Λ fm known-new known-moved known-event (are .0) within))
 
 event-from-meets : {M : Type 1} (𝓤 : URA M) (H : Heap 𝓤) (A : Atoms 𝓤) (W : Given 𝓤 H A) (mem : Memory → SProp 𝓤) (run : Routine → Fun 𝓤) (𝓣 : Tables 𝓤 H)
-    → Triple 𝓤 (𝓣 .C #session·reader·new) (New 𝓤 H A mem run) → Triple 𝓤 (𝓣 .C #session·reader·moved) (Moved 𝓤 H A mem run) → Triple 𝓤 (𝓣 .C #session·reader·next) (Next 𝓤 H A mem run)
+    → Triple 𝓤 (𝓣 .C #session·reader·new) (New 𝓤 H A mem run) → Triple 𝓤 (𝓣 .C #session·reader·moved) (Moved 𝓤 H A mem run) → Triple 𝓤 (𝓣 .C #session·reader·event) (Yields 𝓤 H A mem run)
     → Meets 𝓤 H A event-from.signature (WpFn 𝓤 H (𝓣 .C) (𝓣 .Λ) code.function) (event-from.spec 𝓤 H A mem run)
-event-from-meets 𝓤 H A W mem run 𝓣 known-new known-moved known-next =
+event-from-meets 𝓤 H A W mem run 𝓣 known-new known-moved known-event =
     walk-meets 𝓤 H A event-from.ended stayed W (goes-none-slice 𝓤 H A W 1 (0 ∷ []) tt (plain (λ _. u8)) yes, (goes-none 𝓤 H A W 1 (λ _. usize) yes (λ κs x f. refl), tt)) (event-from.clauses 𝓤 H A mem run)
-    (WpFn 𝓤 H (𝓣 .C) (𝓣 .Λ) code.function) (WpFn-mono 𝓤 H (W .laws) 𝓣 code.function) (event-from-walks 𝓤 H A W mem run (𝓣 .C) (𝓣 .Λ) (fmOf 𝓤 H (W .laws) 𝓣) known-new known-moved known-next)
+    (WpFn 𝓤 H (𝓣 .C) (𝓣 .Λ) code.function) (WpFn-mono 𝓤 H (W .laws) 𝓣 code.function) (event-from-walks 𝓤 H A W mem run (𝓣 .C) (𝓣 .Λ) (fmOf 𝓤 H (W .laws) 𝓣) known-new known-moved known-event)
 
 pub event-from-spec : {M : Type 1} → stated.statement M
 unfolding code.routine tablesOf
@@ -200,4 +200,4 @@ event-from-spec 𝓤 H 𝓜 𝓖 𝓡 =
     (event-from-meets 𝓤 H (𝓖 .A) (givenOf 𝓤 H 𝓜 𝓖) (𝓜 .mem) (𝓡 .run) (tablesOf 𝓤 H 𝓜 (tables 𝓤 H 𝓜 𝓡 code.env))
     (cited 𝓤 H (New 𝓤 H (𝓖 .A) (𝓜 .mem) (𝓡 .run)) 𝓜 𝓡 code.env #session·reader·new new-def.routine code.calls-session·reader·new (new-thm.met 𝓤 H 𝓜 𝓖 𝓡))
     (cited 𝓤 H (Moved 𝓤 H (𝓖 .A) (𝓜 .mem) (𝓡 .run)) 𝓜 𝓡 code.env #session·reader·moved moved-def.routine code.calls-session·reader·moved (moved-thm.met 𝓤 H 𝓜 𝓖 𝓡))
-    (cited 𝓤 H (Next 𝓤 H (𝓖 .A) (𝓜 .mem) (𝓡 .run)) 𝓜 𝓡 code.env #session·reader·next next-def.routine code.calls-session·reader·next (next-thm.met 𝓤 H 𝓜 𝓖 𝓡)))
+    (cited 𝓤 H (Yields 𝓤 H (𝓖 .A) (𝓜 .mem) (𝓡 .run)) 𝓜 𝓡 code.env #session·reader·event event-def.routine code.calls-session·reader·event (event-thm.met 𝓤 H 𝓜 𝓖 𝓡)))

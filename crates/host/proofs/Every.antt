@@ -1,6 +1,6 @@
 -- Every accepted sample of the engine is a reading for the host, and every accepted area an area, since their numbers are below
 -- 2^53 in size. Assumes nothing.
-use Prim.Native.Nat.{ℕ, _^_, _<_}
+use Prim.Native.Nat.{_^_, _<_}
 use native.Mathlib.Omega.{arith}
 use mathlib.Core.Path.{_≡_}
 use borrow.Author.Tests.{lt-ltb, eq-eqb}

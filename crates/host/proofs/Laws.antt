@@ -6,7 +6,7 @@ use mathlib.Core.Bool.{Bool, true, false, _&&_, cond}
 use mathlib.Core.List.{List}
 use mathlib.Core.Path.{_≡_, subst}
 use borrow.Author.Tests.{ltb-true}
-use lib.Dec.{T, leb, eqb, ltb}
+use lib.Dec.{T, leb, eqb}
 use lib.IntN.{ℤ, pos, negsuc, natAbs}
 use lib.ListN.{length}
 use lib.Ieee.{Float, binary64, ofInt, inFloat}
@@ -17,7 +17,7 @@ use Rattle.layout.specs.declared.AnswerRecord.{AnswerRecord}
 use Rattle.layout.specs.Records.{answerAt}
 use Rattle.host.specs.declared.Doubles.{Doubles}
 use Rattle.host.specs.declared.HostAnswer.{HostAnswer}
-use Rattle.host.specs.Doubles.{doubleOf, Whole, belowLimit, doublesOf, isSample, isArea, sampleOf, areaOf, sampleIn, areaIn}
+use Rattle.host.specs.Doubles.{doubleOf, Whole, belowLimit, doublesOf, acceptedAs, numberOf, sampleOf, areaOf, sampleIn, areaIn}
 
 pub below : (z : ℤ) → belowLimit z ≡ true → natAbs z < 2 ^ 53
 below z e = ltb-true (natAbs z) (2 ^ 53) e
@@ -34,23 +34,20 @@ unfolding ofInt
 is-whole (pos n) h = round-whole binary64 false n (omega arith)
 is-whole (negsuc n) h = round-whole binary64 true (suc n) (omega arith)
 
-pub sample-limits : (a : AnswerRecord) → isSample a ≡ true → (belowLimit (a .x) ≡ true) × (belowLimit (a .y) ≡ true)
-sample-limits a e =
-    let w = both (eqb (a .kind) 6 && belowLimit (a .x)) (belowLimit (a .y)) e in
-    (both (eqb (a .kind) 6) (belowLimit (a .x)) (w .0) .1, w .1)
+pub x-limit : (kind : ℕ) (a : AnswerRecord) → acceptedAs kind a ≡ true → belowLimit (a .x) ≡ true
+x-limit kind a e = both (eqb (a .refusal) 0 && eqb (a .kind) kind) (belowLimit (a .x)) e .1
 
-pub area-limit : (a : AnswerRecord) → isArea a ≡ true → belowLimit (a .x) ≡ true
-area-limit a e = both (eqb (a .kind) 9) (belowLimit (a .x)) e .1
+pub sample-limits : (a : AnswerRecord) → (acceptedAs 6 a && belowLimit (a .y)) ≡ true → (belowLimit (a .x) ≡ true) × (belowLimit (a .y) ≡ true)
+sample-limits a e = let w = both (acceptedAs 6 a) (belowLimit (a .y)) e in (x-limit 6 a (w .0), w .1)
 
 -- ---- the case that an answer never is
 
--- what holds of each of an answer's cases, past three tests, holds of it
-any : (P : HostAnswer → Type 0) (s t u : Bool) (x : HostAnswer) (n : ℕ) → P x → P (HostAnswer.Refused n) → P (HostAnswer.Refused 11)
-    → P (cond s (cond t (cond u x (HostAnswer.Refused 11)) (HostAnswer.Refused n)) (HostAnswer.Refused 11))
-any P true true true x n h k l = h
-any P true true false x n h k l = l
-any P true false u x n h k l = k
-any P false t u x n h k l = l
+-- what holds of each of an answer's cases, past two tests, holds of it
+any : (P : HostAnswer → Type 0) (s t : Bool) (x : HostAnswer) (n : ℕ) → P x → P (HostAnswer.Refused n) → P (HostAnswer.Refused 11)
+    → P (cond s (cond t x (HostAnswer.Refused n)) (HostAnswer.Refused 11))
+any P true true x n h k l = h
+any P true false x n h k l = k
+any P false t x n h k l = l
 
 abbrev NoArea : HostAnswer → Type 0
 NoArea (HostAnswer.Reading d) = Unit
@@ -61,7 +58,8 @@ pub sample-no-area : (b : List ℕ) {v : Float} → sampleIn b ≡ HostAnswer.Ar
 unfolding sampleOf sampleIn
 sample-no-area b e =
     let a = answerAt b 0 in
-    subst NoArea e (any NoArea (leb 24 (length b)) (eqb (a .refusal) 0) (isSample a) (HostAnswer.Reading (doublesOf a)) (a .refusal) tt tt tt)
+    subst NoArea e
+    (any NoArea (leb 24 (length b)) (acceptedAs 6 a && belowLimit (a .y)) (HostAnswer.Reading (doublesOf a)) (numberOf a) tt tt tt)
 
 abbrev NoReading : HostAnswer → Type 0
 NoReading (HostAnswer.Reading d) = ⊥
@@ -72,4 +70,4 @@ pub area-no-reading : (b : List ℕ) {d : Doubles} → areaIn b ≡ HostAnswer.R
 unfolding areaOf areaIn
 area-no-reading b e =
     let a = answerAt b 0 in
-    subst NoReading e (any NoReading (leb 24 (length b)) (eqb (a .refusal) 0) (isArea a) (HostAnswer.Area (doubleOf (a .x))) (a .refusal) tt tt tt)
+    subst NoReading e (any NoReading (leb 24 (length b)) (acceptedAs 9 a) (HostAnswer.Area (doubleOf (a .x))) (numberOf a) tt tt tt)

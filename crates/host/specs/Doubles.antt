@@ -47,21 +47,21 @@ valuesOf (HostAnswer.Refused number) = []
 abbrev pub doublesOf : AnswerRecord → Doubles
 doublesOf a = record { wet = doubleOf (a .x); dry = doubleOf (a .y); signal = doubleOf (pos (a .m)) }
 
--- an accepted record is that of a sample, and its numbers are doubles
-abbrev pub isSample : AnswerRecord → Bool
-isSample a = eqb (a .kind) 6 && belowLimit (a .x) && belowLimit (a .y)
+-- accepted, of the kind that was asked for, and x is below the limit
+abbrev pub acceptedAs : ℕ → AnswerRecord → Bool
+acceptedAs kind a = eqb (a .refusal) 0 && eqb (a .kind) kind && belowLimit (a .x)
 
-abbrev pub isArea : AnswerRecord → Bool
-isArea a = eqb (a .kind) 9 && belowLimit (a .x)
+-- any other record is refused: with its own number, or where it has none with 11, malformed, since no engine answers so
+abbrev pub numberOf : AnswerRecord → ℕ
+numberOf a = cond (eqb (a .refusal) 0) 11 (a .refusal)
 
--- a refused record keeps its number; an accepted one that no sample of the engine gets is malformed, 11
+-- of a sample, kind 6, y is below the limit as well
 unfoldable pub sampleOf : AnswerRecord → HostAnswer
-sampleOf a =
-    cond (eqb (a .refusal) 0) (cond (isSample a) (HostAnswer.Reading (doublesOf a)) (HostAnswer.Refused 11)) (HostAnswer.Refused (a .refusal))
+sampleOf a = cond (acceptedAs 6 a && belowLimit (a .y)) (HostAnswer.Reading (doublesOf a)) (HostAnswer.Refused (numberOf a))
 
+-- of an area, kind 9
 unfoldable pub areaOf : AnswerRecord → HostAnswer
-areaOf a =
-    cond (eqb (a .refusal) 0) (cond (isArea a) (HostAnswer.Area (doubleOf (a .x))) (HostAnswer.Refused 11)) (HostAnswer.Refused (a .refusal))
+areaOf a = cond (acceptedAs 9 a) (HostAnswer.Area (doubleOf (a .x))) (HostAnswer.Refused (numberOf a))
 
 -- each double of the answer is its number of the record exactly
 abbrev pub Exactly : HostAnswer → AnswerRecord → Type 0
@@ -71,7 +71,7 @@ Exactly (HostAnswer.Refused number) a = Unit
 
 -- ---- from the bytes of a record
 
--- fewer than 24 are none, 11
+-- fewer than 24 are malformed, 11
 unfoldable pub sampleIn : List ℕ → HostAnswer
 sampleIn b = cond (leb 24 (length b)) (sampleOf (answerAt b 0)) (HostAnswer.Refused 11)
 

@@ -1,22 +1,22 @@
 // Answer records as doubles. A whole number below 2^53 in size becomes a double by `as`, and nothing is lost.
 ghost use mathlib.Core.Path.{_≡_};
-ghost use Rattle.host.specs.Doubles.{belowLimit, isSample, isArea, sampleOf, areaOf, Exactly, sampleIn, areaIn};
+ghost use mathlib.Core.Bool.{_&&_};
+ghost use Rattle.host.specs.Doubles.{belowLimit, acceptedAs, numberOf, sampleOf, areaOf, Exactly, sampleIn, areaIn};
 use crate::Doubles;
 use crate::HostAnswer;
 use layout::AnswerRecord;
 use layout::records::answer_at;
 use rounding::signed::magnitude;
 
+const RECORD_BYTES: usize = 24;
+
 // The answer to a sample. A record that no sample of the engine gets is malformed.
 pub fn of_sample(a: AnswerRecord) -> HostAnswer
     ensures { λ r. ⌜ r ≡ sampleOf a ⌝ }
     ensures { λ r. ⌜ Exactly r a ⌝ }
 {
-    if a.refusal != 0 {
-        return HostAnswer::Refused(a.refusal);
-    }
     if !is_sample(a) {
-        return HostAnswer::Refused(11);
+        return HostAnswer::Refused(number_of(a));
     }
     HostAnswer::Reading(Doubles {
         wet: a.x as f64,
@@ -30,11 +30,8 @@ pub fn of_area(a: AnswerRecord) -> HostAnswer
     ensures { λ r. ⌜ r ≡ areaOf a ⌝ }
     ensures { λ r. ⌜ Exactly r a ⌝ }
 {
-    if a.refusal != 0 {
-        return HostAnswer::Refused(a.refusal);
-    }
-    if !is_area(a) {
-        return HostAnswer::Refused(11);
+    if !accepted(a, 9) {
+        return HostAnswer::Refused(number_of(a));
     }
     HostAnswer::Area(a.x as f64)
 }
@@ -43,7 +40,7 @@ pub fn of_area(a: AnswerRecord) -> HostAnswer
 pub fn sample_in(answer: &[u8]) -> HostAnswer
     ensures { λ r. ⌜ r ≡ sampleIn (now (answer .entry)) ⌝ }
 {
-    if answer.len() < 24 {
+    if answer.len() < RECORD_BYTES {
         return HostAnswer::Refused(11);
     }
     of_sample(answer_at(answer, 0))
@@ -53,31 +50,40 @@ pub fn sample_in(answer: &[u8]) -> HostAnswer
 pub fn area_in(answer: &[u8]) -> HostAnswer
     ensures { λ r. ⌜ r ≡ areaIn (now (answer .entry)) ⌝ }
 {
-    if answer.len() < 24 {
+    if answer.len() < RECORD_BYTES {
         return HostAnswer::Refused(11);
     }
     of_area(answer_at(answer, 0))
 }
 
+// An accepted sample has doubles for x and y.
 fn is_sample(a: AnswerRecord) -> bool
-    ensures { λ r. ⌜ r ≡ isSample a ⌝ }
+    ensures { λ r. ⌜ r ≡ (acceptedAs 6 a && belowLimit (a .y)) ⌝ }
 {
-    if a.kind != 6 {
-        return false;
-    }
-    if !below_limit(a.x) {
+    if !accepted(a, 6) {
         return false;
     }
     below_limit(a.y)
 }
 
-fn is_area(a: AnswerRecord) -> bool
-    ensures { λ r. ⌜ r ≡ isArea a ⌝ }
+// An accepted answer of a kind, with a double for x.
+fn accepted(a: AnswerRecord, kind: u8) -> bool
+    ensures { λ r. ⌜ r ≡ acceptedAs kind a ⌝ }
 {
-    if a.kind != 9 {
+    if a.refusal != 0 {
+        return false;
+    }
+    if a.kind != kind {
         return false;
     }
     below_limit(a.x)
+}
+
+// The number of a refusal, 11 where the record has none.
+fn number_of(a: AnswerRecord) -> u8
+    ensures { λ r. ⌜ r ≡ numberOf a ⌝ }
+{
+    if a.refusal != 0 { a.refusal } else { 11 }
 }
 
 // Whether every whole number of this size is a double.

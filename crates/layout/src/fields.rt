@@ -3,7 +3,7 @@ ghost use mathlib.Core.Path.{_≡_};
 ghost use mathlib.Core.List.{[], _∷_};
 ghost use Prim.Native.Nat.{_+_, _*_, _/_, _%_, _≤_};
 ghost use lib.ListN.{length};
-ghost use Rattle.layout.specs.Fields.{numberOf, u32At, u32Bytes, wordsBytes, signed32, bits32, bits64, splice};
+ghost use Rattle.layout.specs.Fields.{numberOf, u32At, u64At, u32Bytes, wordsBytes, signed32, signed64, bits32, bits64, splice};
 
 // The u32 at an index.
 pub fn u32_at(s: &[u8], at: usize) -> u32
@@ -19,6 +19,14 @@ pub fn i32_at(s: &[u8], at: usize) -> i32
     ensures { λ r. ⌜ r ≡ signed32 (u32At (now (s .entry)) at) ⌝ }
 {
     i32_of(u32_at(s, at))
+}
+
+// The i64 at an index, its lower word first.
+pub fn i64_at(s: &[u8], at: usize) -> i64
+    requires { ⌜ at + 8 ≤ length (now s) ⌝ }
+    ensures { λ r. ⌜ r ≡ signed64 (u64At (now (s .entry)) at) ⌝ }
+{
+    i64_of(u32_at(s, at), u32_at(s, at + 4))
 }
 
 // Puts a u32 at an index. All other bytes stay.
@@ -74,7 +82,19 @@ fn i32_of(n: u32) -> i32
     }
 }
 
-// The 64 bits of an i64, of a negative one by `!` in the same way.
+// The i64 that two words stand for, of a negative one by `!` in the same way.
+fn i64_of(low: u32, high: u32) -> i64
+    ensures { λ r. ⌜ r ≡ signed64 (low + 4294967296 * high) ⌝ }
+{
+    let n = low as u64 + 4294967296 * (high as u64);
+    if n < 9223372036854775808 {
+        n as i64
+    } else {
+        !((18446744073709551615 - n) as i64)
+    }
+}
+
+// The 64 bits of an i64, of a negative one by `!` as well.
 pub(crate) fn i64_bits(x: i64) -> u64
     ensures { λ r. ⌜ r ≡ bits64 x ⌝ }
 {

@@ -1,0 +1,73 @@
+-- Whole numbers below 2^53 in size are doubles exactly, and the numbers of a sample's record, or an area's, are such. No sample is
+-- answered with an area, and no area event with a reading. Assumes nothing.
+use Prim.Native.Nat.{ℕ, suc, _^_, _<_, _≤_}
+use native.Mathlib.Omega.{arith}
+use mathlib.Core.Bool.{Bool, true, false, _&&_, cond}
+use mathlib.Core.List.{List}
+use mathlib.Core.Path.{_≡_, subst}
+use borrow.Author.Tests.{ltb-true}
+use lib.Dec.{T, leb, eqb}
+use lib.IntN.{ℤ, pos, negsuc, natAbs}
+use lib.ListN.{length}
+use lib.Ieee.{Float, binary64, ofInt, inFloat}
+use lib.Ieee.Back.{round-whole}
+use mir.Facts.{yes-leb, yes-ltb}
+use Rattle.curve.proofs.Within.{both}
+use Rattle.layout.specs.declared.AnswerRecord.{AnswerRecord}
+use Rattle.layout.specs.Records.{answerAt}
+use Rattle.host.specs.declared.Doubles.{Doubles}
+use Rattle.host.specs.declared.HostAnswer.{HostAnswer}
+use Rattle.host.specs.Doubles.{doubleOf, Whole, belowLimit, doublesOf, acceptedAs, numberOf, sampleOf, areaOf, sampleIn, areaIn}
+
+pub below : (z : ℤ) → belowLimit z ≡ true → natAbs z < 2 ^ 53
+below z e = ltb-true (natAbs z) (2 ^ 53) e
+
+-- what a cast asks
+pub in-float : (z : ℤ) → belowLimit z ≡ true → T (inFloat binary64 z)
+unfolding inFloat
+in-float (pos n) e = let h : n ≤ 2 ^ 53 = omega (arith, below (pos n) e) in yes-leb h
+in-float (negsuc n) e = let h : n < 2 ^ 53 = omega (arith, below (negsuc n) e) in yes-ltb h
+
+-- and what it gives
+pub is-whole : (z : ℤ) → natAbs z < 2 ^ 53 → Whole (doubleOf z) z
+unfolding ofInt
+is-whole (pos n) h = round-whole binary64 false n (omega arith)
+is-whole (negsuc n) h = round-whole binary64 true (suc n) (omega arith)
+
+pub x-limit : (kind : ℕ) (a : AnswerRecord) → acceptedAs kind a ≡ true → belowLimit (a .x) ≡ true
+x-limit kind a e = both (eqb (a .refusal) 0 && eqb (a .kind) kind) (belowLimit (a .x)) e .1
+
+pub sample-limits : (a : AnswerRecord) → (acceptedAs 6 a && belowLimit (a .y)) ≡ true → (belowLimit (a .x) ≡ true) × (belowLimit (a .y) ≡ true)
+sample-limits a e = let w = both (acceptedAs 6 a) (belowLimit (a .y)) e in (x-limit 6 a (w .0), w .1)
+
+-- ---- the case that an answer never is
+
+-- what holds of each of an answer's cases, past two tests, holds of it
+any : (P : HostAnswer → Type 0) (s t : Bool) (x : HostAnswer) (n : ℕ) → P x → P (HostAnswer.Refused n) → P (HostAnswer.Refused 11)
+    → P (cond s (cond t x (HostAnswer.Refused n)) (HostAnswer.Refused 11))
+any P true true x n h k l = h
+any P true false x n h k l = k
+any P false t x n h k l = l
+
+abbrev NoArea : HostAnswer → Type 0
+NoArea (HostAnswer.Reading d) = Unit
+NoArea (HostAnswer.Area v) = ⊥
+NoArea (HostAnswer.Refused number) = Unit
+
+pub sample-no-area : (b : List ℕ) {v : Float} → sampleIn b ≡ HostAnswer.Area v → ⊥
+unfolding sampleOf sampleIn
+sample-no-area b e =
+    let a = answerAt b 0 in
+    subst NoArea e
+    (any NoArea (leb 24 (length b)) (acceptedAs 6 a && belowLimit (a .y)) (HostAnswer.Reading (doublesOf a)) (numberOf a) tt tt tt)
+
+abbrev NoReading : HostAnswer → Type 0
+NoReading (HostAnswer.Reading d) = ⊥
+NoReading (HostAnswer.Area v) = Unit
+NoReading (HostAnswer.Refused number) = Unit
+
+pub area-no-reading : (b : List ℕ) {d : Doubles} → areaIn b ≡ HostAnswer.Reading d → ⊥
+unfolding areaOf areaIn
+area-no-reading b e =
+    let a = answerAt b 0 in
+    subst NoReading e (any NoReading (leb 24 (length b)) (acceptedAs 9 a) (HostAnswer.Area (doubleOf (a .x))) (numberOf a) tt tt tt)

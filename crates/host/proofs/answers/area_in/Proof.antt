@@ -1,0 +1,23 @@
+-- `host::answers::area_in` meets its contract, by the length. Assumes nothing.
+use borrow.Author.Needs.{needs}
+use borrow.Author.Tests.{le-leb, lt-leb}
+use Rattle.host.specs.Doubles.{areaIn}
+use Rattle.host.proofs.answers.area_in.Statement.{statement}
+use Rattle.host.proofs.answers.area_in.Tie as tie
+
+returns : tie.Need-returns
+unfolding areaIn
+returns c = rw (lt-leb _ _ (c .if1 .taken))
+
+answer-at-requires : tie.Need-answer-at-requires
+answer-at-requires c κs = search needs
+
+of-area-requires : tie.Need-of-area-requires
+of-area-requires c κs = search needs
+
+returns-2 : tie.Need-returns-2
+unfolding areaIn
+returns-2 c = rw (le-leb _ _ (c .before .before .if1 .left), ← c .before .answer-at .ensures) (c .of-area .ensures .0)
+
+pub area-in-spec : {M : Type 1} → statement M
+area-in-spec = tie.close (tie.spec returns answer-at-requires of-area-requires returns-2)

@@ -1,0 +1,58 @@
+-- `host::answers::of_sample` meets its contract: a refusal, or a reading, each double exact. Assumes nothing.
+use mathlib.Core.Path.{_≡_, sym, _∙_}
+use mathlib.Core.Bool.{true, _&&_}
+use Prim.Native.Nat.{_<_}
+use native.Mathlib.Omega.{arith}
+use borrow.Author.Needs.{needs}
+use borrow.Author.Tests.{not-true, not-false}
+use lib.IntN.{pos}
+use mir.Syntax.{w64}
+use mir.Val.{toZ, ofZ}
+use Rattle.host.specs.Doubles.{acceptedAs, belowLimit, sampleOf}
+use Rattle.host.proofs.Laws.{in-float, is-whole, below, sample-limits}
+use Rattle.host.proofs.answers.of_sample.Statement.{statement}
+use Rattle.host.proofs.answers.of_sample.Tie as tie
+
+is-sample-requires : tie.Need-is-sample-requires
+is-sample-requires c κs = search needs
+
+number-of-requires : tie.Need-number-of-requires
+number-of-requires c κs = search needs
+
+returns : tie.Need-returns
+unfolding sampleOf
+returns c = (rw (sym (c .before .before .is-sample .ensures) ∙ not-true _ (c .before .if1 .taken), c .number-of .ensures), tt)
+
+-- past the test it is a sample
+sample : (c : tie.Else1) → (acceptedAs 6 (c .before .before .args .a) && belowLimit (c .before .before .args .a .y)) ≡ true
+sample c = sym (c .before .is-sample .ensures) ∙ not-false _ (c .if1 .left)
+
+int-to-float-t5 : tie.Need-int-to-float-t5
+int-to-float-t5 c =
+    let a = c .before .before .before .before .args .a in
+    let x : toZ w64 (ofZ w64 (a .x)) ≡ a .x = search needs in
+    rw x (in-float (a .x) (sample-limits a (sample (c .before .before)) .0))
+
+int-to-float-t6 : tie.Need-int-to-float-t6
+int-to-float-t6 c =
+    let a = c .before .before .before .before .before .before .args .a in
+    let y : toZ w64 (ofZ w64 (a .y)) ≡ a .y = search needs in
+    rw y (in-float (a .y) (sample-limits a (sample (c .before .before .before .before)) .1))
+
+int-to-float-t7 : tie.Need-int-to-float-t7
+int-to-float-t7 c = search needs
+
+returns-2 : tie.Need-returns-2
+unfolding sampleOf
+returns-2 c =
+    let d = c .before .before .before .before .before in
+    let a = d .before .before .args .a in
+    let x : toZ w64 (ofZ w64 (a .x)) ≡ a .x = search needs in
+    let y : toZ w64 (ofZ w64 (a .y)) ≡ a .y = search needs in
+    let m : a .m < 4294967296 = search needs in
+    let limits = sample-limits a (sample d) in
+    rw (x, y) (rw (sample d), (is-whole (a .x) (below (a .x) (limits .0)), is-whole (a .y) (below (a .y) (limits .1)), is-whole (pos (a .m)) (omega arith)))
+
+pub of-sample-spec : {M : Type 1} → statement M
+of-sample-spec =
+    tie.close (tie.spec is-sample-requires number-of-requires returns int-to-float-t5 int-to-float-t6 int-to-float-t7 returns-2)

@@ -1,0 +1,23 @@
+-- `host::answers::sample_in` meets its contract, by the length. Assumes nothing.
+use borrow.Author.Needs.{needs}
+use borrow.Author.Tests.{le-leb, lt-leb}
+use Rattle.host.specs.Doubles.{sampleIn}
+use Rattle.host.proofs.answers.sample_in.Statement.{statement}
+use Rattle.host.proofs.answers.sample_in.Tie as tie
+
+returns : tie.Need-returns
+unfolding sampleIn
+returns c = rw (lt-leb _ _ (c .if1 .taken))
+
+answer-at-requires : tie.Need-answer-at-requires
+answer-at-requires c κs = search needs
+
+of-sample-requires : tie.Need-of-sample-requires
+of-sample-requires c κs = search needs
+
+returns-2 : tie.Need-returns-2
+unfolding sampleIn
+returns-2 c = rw (le-leb _ _ (c .before .before .if1 .left), ← c .before .answer-at .ensures) (c .of-sample .ensures .0)
+
+pub sample-in-spec : {M : Type 1} → statement M
+sample-in-spec = tie.close (tie.spec returns answer-at-requires of-sample-requires returns-2)

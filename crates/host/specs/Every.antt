@@ -1,0 +1,32 @@
+-- That no accepted answer of the engine is lost on the way to the host: every sample is a reading and every area an area, the doubles
+-- exactly the numbers. `proofs/Every.antt` proves both. Assumes nothing.
+use Prim.Native.Nat.{ℕ}
+use mathlib.Core.List.{List}
+use mathlib.Core.Path.{_≡_}
+use Rattle.layout.specs.declared.EventRecord.{EventRecord}
+use Rattle.layout.specs.declared.AnswerRecord.{AnswerRecord}
+use Rattle.engine.specs.declared.State.{State}
+use Rattle.engine.specs.Step.{stepOf}
+use Rattle.session.specs.Entries.{entryOf}
+use Rattle.session.specs.Run.{recordOf}
+use Rattle.host.specs.declared.HostAnswer.{HostAnswer}
+use Rattle.host.specs.Doubles.{doubleOf, doublesOf, sampleOf, areaOf, Exactly}
+
+-- the record that the engine answers an event with, under any sheets and from any state
+abbrev pub answerTo : List ℕ → State → EventRecord → AnswerRecord
+answerTo sheets st r = recordOf (r .kind) (stepOf sheets st (entryOf r) .answer)
+
+-- what the host gets, and that it is the record's numbers
+pub record Given (got wanted : HostAnswer) (a : AnswerRecord) : Type 0 where
+  pub is : got ≡ wanted
+  pub exact : Exactly wanted a
+
+abbrev pub EveryReading : Type 0
+EveryReading =
+    (sheets : List ℕ) (st : State) (r : EventRecord) → answerTo sheets st r .kind ≡ 6 → answerTo sheets st r .refusal ≡ 0
+    → Given (sampleOf (answerTo sheets st r)) (HostAnswer.Reading (doublesOf (answerTo sheets st r))) (answerTo sheets st r)
+
+abbrev pub EveryArea : Type 0
+EveryArea =
+    (sheets : List ℕ) (st : State) (r : EventRecord) → answerTo sheets st r .kind ≡ 9 → answerTo sheets st r .refusal ≡ 0
+    → Given (areaOf (answerTo sheets st r)) (HostAnswer.Area (doubleOf (answerTo sheets st r .x))) (answerTo sheets st r)

@@ -1,0 +1,62 @@
+// The functions that C calls. A slice is a pointer and a length; none of them asks anything of what it is lent.
+ghost use mathlib.Core.Path.{_≡_};
+ghost use lib.ListN.{length, getD};
+ghost use Rattle.session.specs.Run.{statusOf, writtenOf, outputOf};
+ghost use Rattle.host.specs.Doubles.{refusalOf, valuesOf, sampleIn, areaIn};
+use crate::HostAnswer;
+use crate::answers::area_in;
+use crate::answers::sample_in;
+use session::run::run;
+
+// Answers a whole session file into `out`: 0, or refusal 12 or 13, which leaves `out` as it was. `written` becomes the count of
+// bytes that it wrote, 0 with a refusal.
+#[no_mangle]
+pub extern "C" fn irga_run(file: &[u8], out: &mut [u8], written: &mut usize) -> u8
+    ensures { λ r. ⌜ r ≡ statusOf (now (file .entry)) (length (now (out .entry))) ⌝ }
+    ensures { λ _. ⌜ now (written .exit) ≡ writtenOf (now (file .entry)) (length (now (out .entry))) ⌝ }
+    ensures { λ _. ⌜ now (out .exit) ≡ outputOf (now (file .entry)) (now (out .entry)) ⌝ }
+{
+    let ran = run(file, out);
+    *written = ran.written;
+    ran.status
+}
+
+// The answer to a sample, from its 24 bytes: 0 with wet, dry and signal, or a refusal, which leaves all three as they were.
+#[no_mangle]
+pub extern "C" fn irga_reading(answer: &[u8], wet: &mut f64, dry: &mut f64, signal: &mut f64) -> u8
+    ensures { λ r. ⌜ r ≡ refusalOf (sampleIn (now (answer .entry))) ⌝ }
+    ensures { λ _. ⌜ now (wet .exit) ≡ getD (valuesOf (sampleIn (now (answer .entry)))) 0 (now (wet .entry)) ⌝ }
+    ensures { λ _. ⌜ now (dry .exit) ≡ getD (valuesOf (sampleIn (now (answer .entry)))) 1 (now (dry .entry)) ⌝ }
+    ensures { λ _. ⌜ now (signal .exit) ≡ getD (valuesOf (sampleIn (now (answer .entry)))) 2 (now (signal .entry)) ⌝ }
+{
+    let got = sample_in(answer);
+    match got {
+        HostAnswer::Reading(d) => {
+            *wet = d.wet;
+            *dry = d.dry;
+            *signal = d.signal;
+            0
+        }
+        // No sample is answered so.
+        HostAnswer::Area(_) => 11,
+        HostAnswer::Refused(number) => number,
+    }
+}
+
+// The answer to an area event, from its 24 bytes: 0 with the area, or a refusal, which leaves it as it was.
+#[no_mangle]
+pub extern "C" fn irga_area(answer: &[u8], area: &mut f64) -> u8
+    ensures { λ r. ⌜ r ≡ refusalOf (areaIn (now (answer .entry))) ⌝ }
+    ensures { λ _. ⌜ now (area .exit) ≡ getD (valuesOf (areaIn (now (answer .entry)))) 0 (now (area .entry)) ⌝ }
+{
+    let got = area_in(answer);
+    match got {
+        HostAnswer::Area(v) => {
+            *area = v;
+            0
+        }
+        // No area event is answered so.
+        HostAnswer::Reading(_) => 11,
+        HostAnswer::Refused(number) => number,
+    }
+}

@@ -1,0 +1,36 @@
+-- `layout::fields::i64_of` meets its contract: the machine's signed reading of its bits is `signed64`. Assumes nothing.
+use mathlib.Core.Path.{_≡_, sym}
+use Prim.Native.Nat.{ℕ, _+_, _*_, _-_}
+use native.Mathlib.Omega.{arith}
+use mir.Syntax.{w64}
+use Rattle.layout.proofs.TwosComplement.{signed-machine}
+use borrow.Author.Needs.{needs}
+use Rattle.layout.proofs.fields.i64_of.Statement.{statement}
+use Rattle.layout.proofs.fields.i64_of.Tie as tie
+
+mul-n : tie.Need-mul-n
+mul-n c = search needs
+
+add-n : tie.Need-add-n
+add-n c = search needs
+
+cast-result : tie.Need-cast-result
+cast-result c = search needs
+
+sub-result : tie.Need-sub-result
+sub-result c = search needs
+
+cast-result-2 : tie.Need-cast-result-2
+cast-result-2 c = search needs
+
+returns : tie.Need-returns
+returns c = sym (signed-machine w64 _)
+
+returns-2 : tie.Need-returns-2
+returns-2 c =
+    let n : ℕ = c .before .args .low + 4294967296 * c .before .args .high in
+    let e : 18446744073709551615 - (18446744073709551615 - n) ≡ n = omega arith in
+    rw e (sym (signed-machine w64 _))
+
+pub i64-of-spec : {M : Type 1} → statement M
+i64-of-spec = tie.close (tie.spec mul-n add-n cast-result sub-result cast-result-2 returns returns-2)

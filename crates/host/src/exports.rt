@@ -2,10 +2,12 @@
 ghost use mathlib.Core.Path.{_≡_};
 ghost use lib.ListN.{length, getD};
 ghost use Rattle.session.specs.Run.{statusOf, writtenOf, outputOf};
+ghost use Rattle.session.specs.Text.{linesStatus, linesWritten, linesOutput};
 ghost use Rattle.host.specs.Doubles.{refusalOf, valuesOf, sampleIn, areaIn};
 use crate::HostAnswer;
 use crate::answers::area_in;
 use crate::answers::sample_in;
+use session::print::lines;
 use session::run::run;
 
 // Answers a whole session file into `out`: 0, or refusal 12 or 13, which leaves `out` as it was. `written` becomes the count of
@@ -19,6 +21,19 @@ pub extern "C" fn irga_run(file: &[u8], out: &mut [u8], written: &mut usize) -> 
     let ran = run(file, out);
     *written = ran.written;
     ran.status
+}
+
+// Puts the printed lines of a session file into `out`: 0, or refusal 12 or 13, which leaves `out` as it was. `written` becomes the
+// length of the text, 0 with a refusal.
+#[no_mangle]
+pub extern "C" fn irga_lines(file: &[u8], out: &mut [u8], written: &mut usize) -> u8
+    ensures { λ r. ⌜ r ≡ linesStatus (now (file .entry)) (length (now (out .entry))) ⌝ }
+    ensures { λ _. ⌜ now (written .exit) ≡ linesWritten (now (file .entry)) (length (now (out .entry))) ⌝ }
+    ensures { λ _. ⌜ now (out .exit) ≡ linesOutput (now (file .entry)) (now (out .entry)) ⌝ }
+{
+    let put = lines(file, out);
+    *written = put.written;
+    put.status
 }
 
 // The answer to a sample, from its 24 bytes: 0 with wet, dry and signal, or a refusal, which leaves all three as they were.

@@ -7,14 +7,17 @@
 //! `random` and `sessions` invent lessons, `harness` compares an engine with this
 //! one over many of them, `bench` holds the readings and the maker's table that
 //! the papers give, and `worst` looks for the readings with the largest errors.
-//! With the feature of its name, `library` is the proved library.
+//! `drift` sets the old program's area beside ours, and `figures` writes numbers for
+//! tables. With the feature of its name, `library` is the proved library.
 
 #![deny(unsafe_code)]
 
 pub mod bench;
 pub mod big;
+pub mod drift;
 pub mod engine;
 pub mod exact;
+pub mod figures;
 pub mod file;
 pub mod harness;
 pub mod ledger;

@@ -1,0 +1,50 @@
+//! The drift as a table.
+
+use super::{Point, READINGS_AN_HOUR, UNITS};
+use crate::exact::Fraction;
+use crate::figures::grouped;
+use crate::ledger::area_allowed;
+
+/// The lengths that the table shows: 20 minutes, then 1, 3, 6, 12 and 24 hours, and the
+/// longest integration.
+const LENGTHS: [u32; 7] = [6_000, 18_000, 54_000, 108_000, 216_000, 432_000, 600_000];
+
+fn lesson(readings: u32) -> String {
+    let minutes = readings / (READINGS_AN_HOUR / 60);
+    match (minutes / 60, minutes % 60) {
+        (0, minutes) => format!("{minutes} min"),
+        (hours, 0) => format!("{hours} h"),
+        (hours, minutes) => format!("{hours} h {minutes} min"),
+    }
+}
+
+/// In µmol/mol s, cut after some decimals.
+fn micro(area: &Fraction, digits: u32) -> String {
+    grouped(&area.times(&Fraction::of(1, UNITS)).decimal(digits))
+}
+
+fn row(point: &Point) -> String {
+    let readings = point.readings;
+    let allowed = Fraction::whole(area_allowed(u64::from(readings)));
+    let cells = [
+        grouped(&readings.to_string()),
+        lesson(readings),
+        micro(&point.exact, 1),
+        micro(&point.shown, 1),
+        micro(&point.unrounded, 1),
+        micro(&point.engine, 4),
+        micro(&allowed, 1),
+    ];
+    format!("| {} |\n", cells.join(" | "))
+}
+
+/// The table in Markdown; everything but the first two columns is in µmol/mol s.
+pub fn text(points: &[Point]) -> String {
+    let mut text = "| readings | lesson | exact area | old way, shown to 0.1: off by | \
+                    old way, not rounded: off by | engine: off by | engine: proved to be within |\n"
+        .to_string();
+    text.push_str("|---:|---|---:|---:|---:|---:|---:|\n");
+    let wanted = points.iter().filter(|point| LENGTHS.contains(&point.readings));
+    text.extend(wanted.map(row));
+    text
+}

@@ -133,9 +133,10 @@ uint8_t irga_lines(const uint8_t *file, size_t file_length,
  *                         without its water vapour, in pmol/mol
  * signal                  gets the reference signal in 100 nV, 0 in absolute mode
  *
- * Returns IRGA_ACCEPTED; or the answer's own refusal; or IRGA_MALFORMED_EVENT for bytes
- * that are no sample's answer: fewer than 24, another kind, or a wet or dry value of 2^53
- * or more in size, which a double might not hold.
+ * Returns IRGA_ACCEPTED; or the refusal that the answer holds, whatever its kind; or
+ * IRGA_MALFORMED_EVENT for bytes that are no sample's answer: fewer than 24, an accepted
+ * event of another kind, or a wet or dry value of 2^53 or more in size, which a double
+ * might not hold.
  *
  * Touches: the three doubles if it returns 0, and nothing else.
  */

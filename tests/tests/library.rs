@@ -155,18 +155,19 @@ fn bits(number: i64) -> u64 {
     (number as f64).to_bits()
 }
 
-/// What both functions owe to an answer of the engine, by its kind and refusal.
+/// What both functions owe to an answer of the engine: a refusal is handed on whatever the
+/// kind, and an accepted event of another kind is 11.
 fn assert_doubles(answer: &Answer, bytes: &[u8]) {
     let expected_reading = match (answer.kind, answer.refusal) {
         (6, 0) => (0, [bits(answer.x), bits(answer.y), bits(i64::from(answer.m))]),
-        (6, refusal) => (refusal, OLD),
-        _ => (11, OLD),
+        (_, 0) => (11, OLD),
+        (_, refusal) => (refusal, OLD),
     };
     assert_eq!(reading(bytes), expected_reading, "{answer:?}");
     let expected_area = match (answer.kind, answer.refusal) {
         (9, 0) => (0, bits(answer.x)),
-        (9, refusal) => (refusal, OLD[0]),
-        _ => (11, OLD[0]),
+        (_, 0) => (11, OLD[0]),
+        (_, refusal) => (refusal, OLD[0]),
     };
     assert_eq!(area(bytes), expected_area, "{answer:?}");
 }
@@ -235,7 +236,7 @@ fn other_kinds_and_refused_answers() {
         assert_eq!(doubles, expected, "kind {kind}");
         let expected = if kind == 9 { (0, bits(2)) } else { (11, OLD[0]) };
         assert_eq!(area(&answer(kind, 0, 1, 2, 0)), expected, "kind {kind}");
-        for refusal in 1..=11 {
+        for refusal in 1..=255 {
             let refused = Answer { kind, refusal, m: 0, x: 0, y: 0 };
             assert_doubles(&refused, &file::answer_to_bytes(&refused));
         }

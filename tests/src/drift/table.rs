@@ -38,6 +38,23 @@ fn row(point: &Point) -> String {
     format!("| {} |\n", cells.join(" | "))
 }
 
+/// The distance that is largest in size, without its sign.
+fn largest(points: &[Point], distance: fn(&Point) -> &Fraction, digits: u32) -> String {
+    let sizes = points.iter().map(|point| distance(point).error_of(0).abs());
+    let farthest = points.iter().zip(sizes).max_by(|(_, one), (_, other)| one.total_cmp(other));
+    let text = farthest.map(|(point, _)| micro(distance(point), digits)).unwrap_or_default();
+    text.trim_start_matches('-').to_string()
+}
+
+/// The last row: the worst of all areas that were read, not only of those shown.
+fn worst(points: &[Point]) -> String {
+    let shown = largest(points, |point| &point.shown, 1);
+    let unrounded = largest(points, |point| &point.unrounded, 1);
+    let engine = largest(points, |point| &point.engine, 4);
+    let count = points.len();
+    format!("| the worst of {count} areas | | | {shown} | {unrounded} | {engine} | |\n")
+}
+
 /// The table in Markdown; everything but the first two columns is in µmol/mol s.
 pub fn text(points: &[Point]) -> String {
     let mut text = "| readings | lesson | exact area | old way, shown to 0.1: off by | \
@@ -46,5 +63,5 @@ pub fn text(points: &[Point]) -> String {
     text.push_str("|---:|---|---:|---:|---:|---:|---:|\n");
     let wanted = points.iter().filter(|point| LENGTHS.contains(&point.readings));
     text.extend(wanted.map(row));
-    text
+    text + &worst(points)
 }

@@ -34,25 +34,26 @@ extern "C" {
     fn irga_area(answer: *const u8, answer_length: usize, area: *mut c_double) -> u8;
 }
 
-/// What stands in `written` before a call: no length, so that a call that leaves it shows.
-const UNWRITTEN: usize = usize::MAX;
+type OverLent = unsafe extern "C" fn(*const u8, usize, *mut u8, usize, *mut usize) -> u8;
 
-/// Runs a lent file and writes the answers from the start of the lent output.
+/// Calls one of the two functions over a lent file and a lent output.
 #[allow(unsafe_code)]
-pub fn run(file: &[u8], output: &mut [u8]) -> Outcome {
-    let mut written = UNWRITTEN;
+fn over_lent(function: OverLent, file: &[u8], output: &mut [u8]) -> Outcome {
+    // No length of anything, so that a call that leaves it shows.
+    let mut written = usize::MAX;
     let (out, room) = (output.as_mut_ptr(), output.len());
-    let status = unsafe { irga_run(file.as_ptr(), file.len(), out, room, &mut written) };
+    let status = unsafe { function(file.as_ptr(), file.len(), out, room, &mut written) };
     Outcome { status, written }
 }
 
+/// Runs a lent file and writes the answers from the start of the lent output.
+pub fn run(file: &[u8], output: &mut [u8]) -> Outcome {
+    over_lent(irga_run, file, output)
+}
+
 /// Runs a lent file and writes the lines from the start of the lent output.
-#[allow(unsafe_code)]
 pub fn lines(file: &[u8], output: &mut [u8]) -> Outcome {
-    let mut written = UNWRITTEN;
-    let (out, room) = (output.as_mut_ptr(), output.len());
-    let status = unsafe { irga_lines(file.as_ptr(), file.len(), out, room, &mut written) };
-    Outcome { status, written }
+    over_lent(irga_lines, file, output)
 }
 
 /// Wet, dry and signal of a sample's answer.

@@ -148,6 +148,9 @@ fn legend() -> String {
     LINES.iter().zip(lefts).map(entry).collect()
 }
 
+const HOURS: &str = "length of the lesson in hours, five readings a second";
+const DISTANCE: &str = "area less exact area, in µmol/mol s";
+
 /// The afternoon's end, and what the axes say.
 fn words(scale: &Scale) -> String {
     let afternoon = scale.x(AFTERNOON);
@@ -155,8 +158,9 @@ fn words(scale: &Scale) -> String {
     format!(
         "<path d=\"M{afternoon:.1} {TOP}V{BOTTOM}\" stroke=\"#888888\" stroke-dasharray=\"2 3\"/>\n\
          <text x=\"{:.1}\" y=\"{:.1}\">an afternoon</text>\n\
-         <text x=\"{middle}\" y=\"{:.1}\" text-anchor=\"middle\">length of the lesson in hours, five readings a second</text>\n\
-         <text transform=\"translate(18 {centre}) rotate(-90)\" text-anchor=\"middle\">area less exact area, in µmol/mol s</text>\n",
+         <text x=\"{middle}\" y=\"{:.1}\" text-anchor=\"middle\">{HOURS}</text>\n\
+         <text transform=\"translate(18 {centre}) rotate(-90)\" text-anchor=\"middle\">\
+         {DISTANCE}</text>\n",
         afternoon + 5.0,
         TOP + 15.0,
         BOTTOM + 44.0

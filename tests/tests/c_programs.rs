@@ -39,7 +39,7 @@ fn compile(compiler: &[&str], words: &[&str]) {
 
 /// Writes a source, compiles it, links it with the archive, and names the program.
 fn link(compiler: &[&str], name: &str, source: &str) -> PathBuf {
-    let (path, program) = (scratch(name), scratch(name).with_extension("program"));
+    let (path, program) = (scratch(name), scratch(&format!("{name}.program")));
     fs::write(&path, source).expect("the source can be written");
     let words = [path.to_str(), Some(env!("IRGA_ARCHIVE")), Some("-o"), program.to_str()];
     compile(compiler, &words.map(|word| word.expect("a path in UTF-8")));

@@ -24,6 +24,18 @@ pub const AIR: Air = Air { p: 101_300, t: 29_815, e: 0 };
 pub const TABLE_SHEET: Sheet =
     Sheet { a1: 142_000_000, a2: 22_580_000, a3: 1_787_000, t0: 31_335, k: 191_300_000 };
 
+/// The same sheet as a file has it.
+pub fn table_sheet() -> SheetRecord {
+    SheetRecord {
+        a1: TABLE_SHEET.a1 as i32,
+        a2: TABLE_SHEET.a2 as i32,
+        a3: TABLE_SHEET.a3 as i32,
+        t0: TABLE_SHEET.t0 as u32,
+        k: TABLE_SHEET.k as u32,
+        rest: 0,
+    }
+}
+
 /// The table knows nothing of pressure and warmth: P is P0, T is T0, dry air.
 pub const TABLE_AIR: Air = Air { p: 101_300, t: 31_335, e: 0 };
 

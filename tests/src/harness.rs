@@ -10,7 +10,7 @@ use std::path::{Path, PathBuf};
 use std::process::{Command, Stdio};
 use std::thread;
 
-use crate::file::{self, Outcome, Session, RECORD_BYTES};
+use crate::file::{self, Outcome, Session, LINE_ROOM, RECORD_BYTES};
 use crate::ledger::{self, Distances};
 use crate::random::Random;
 use crate::sessions;
@@ -84,7 +84,12 @@ impl Campaign {
 
     /// Compares an engine with this implementation, byte by byte.
     pub fn against_engine(&self, engine: &mut dyn Engine) -> Result<Count, String> {
-        self.each(|file, random| compare_run(engine, file, random))
+        self.each(|file, random| compare_lent(&ANSWERS, engine, file, random))
+    }
+
+    /// Compares an engine that writes lines in the place of answers, byte by byte.
+    pub fn against_lines(&self, engine: &mut dyn Engine) -> Result<Count, String> {
+        self.each(|file, random| compare_lent(&LINES, engine, file, random))
     }
 
     /// Compares a program with this implementation, line by line.
@@ -151,11 +156,31 @@ impl Count {
     }
 }
 
-fn compare_run(engine: &mut dyn Engine, file: &[u8], random: &mut Random) -> Result<u8, String> {
+/// What a lent output is filled with by this implementation, and with how much room.
+struct Filling {
+    name: &'static str,
+    run: fn(&[u8], &mut [u8]) -> Outcome,
+    room: usize,
+    /// Says how two outputs differ that do so at a byte.
+    differ: fn(&[u8], &[u8], usize) -> String,
+}
+
+const ANSWERS: Filling =
+    Filling { name: "answers", run: file::run, room: RECORD_BYTES, differ: differing_answer };
+
+const LINES: Filling =
+    Filling { name: "lines", run: file::lines, room: LINE_ROOM, differ: differing_line };
+
+fn compare_lent(
+    filling: &Filling,
+    engine: &mut dyn Engine,
+    file: &[u8],
+    random: &mut Random,
+) -> Result<u8, String> {
     let events = Session::open(file).map_or(3, |session| session.events.len());
-    let before = sessions::lent_output(random, RECORD_BYTES * events);
+    let before = sessions::lent_output(random, filling.room * events);
     let (mut ours, mut theirs) = (before.clone(), before);
-    let expected = file::run(file, &mut ours);
+    let expected = (filling.run)(file, &mut ours);
     let outcome = engine.run(file, &mut theirs);
     if outcome != expected {
         return Err(format!("expected {expected:?}, the engine gave {outcome:?}"));
@@ -163,16 +188,28 @@ fn compare_run(engine: &mut dyn Engine, file: &[u8], random: &mut Random) -> Res
     match ours.iter().zip(&theirs).position(|(a, b)| a != b) {
         None => Ok(expected.status),
         Some(at) if at >= expected.written => {
-            Err(format!("byte {at} after the answers was touched"))
+            Err(format!("byte {at} after the {} was touched", filling.name))
         }
-        Some(at) => {
-            let from = at - at % RECORD_BYTES;
-            let to = from + RECORD_BYTES;
-            let ordinal = at / RECORD_BYTES + 1;
-            let (ours, theirs) = (&ours[from..to], &theirs[from..to]);
-            Err(format!("answer {ordinal}: expected {ours:?}, the engine gave {theirs:?}"))
-        }
+        Some(at) => Err((filling.differ)(&ours, &theirs, at)),
     }
+}
+
+fn differing_answer(ours: &[u8], theirs: &[u8], at: usize) -> String {
+    let from = at - at % RECORD_BYTES;
+    let to = from + RECORD_BYTES;
+    let ordinal = at / RECORD_BYTES + 1;
+    let (ours, theirs) = (&ours[from..to], &theirs[from..to]);
+    format!("answer {ordinal}: expected {ours:?}, the engine gave {theirs:?}")
+}
+
+fn differing_line(ours: &[u8], theirs: &[u8], at: usize) -> String {
+    let ordinal = ours[..at].iter().filter(|byte| **byte == b'\n').count();
+    let line = |text: &[u8]| {
+        let line = text.split(|byte| *byte == b'\n').nth(ordinal);
+        String::from_utf8_lossy(line.unwrap_or_default()).into_owned()
+    };
+    let (ours, theirs) = (line(ours), line(theirs));
+    format!("line {}: expected '{ours}', the engine gave '{theirs}'", ordinal + 1)
 }
 
 fn compare_lines(program: &mut dyn Program, file: &[u8]) -> Result<(), String> {

@@ -3,25 +3,16 @@
 //! The analyser is that of source document 000's Table 3-1. Its converter stands 1,250
 //! units off zero and reads almost one per cent high, which zero and span take out.
 
-use crate::engine::{Event, SheetRecord};
+use crate::bench;
+use crate::engine::Event;
 use crate::file::{EventRecord, Session};
 
-const CHAMBER: (u32, u32, u32) = (99_500, 29_815, 1_600);
+/// Pressure, temperature and vapour pressure in the chamber.
+pub const CHAMBER: (u32, u32, u32) = (99_500, 29_815, 1_600);
 const ZERO: i32 = 1_250;
 
 /// Five readings a second for a minute.
 const SAMPLES: i32 = 300;
-
-fn sheet() -> SheetRecord {
-    SheetRecord {
-        a1: 142_000_000,
-        a2: 22_580_000,
-        a3: 1_787_000,
-        t0: 31_335,
-        k: 191_300_000,
-        rest: 0,
-    }
-}
 
 /// The signal against the reference: the leaf draws the chamber's CO2 down, and the
 /// converter flickers by some tens of units.
@@ -47,5 +38,8 @@ fn events() -> Vec<Event> {
 }
 
 pub fn session() -> Session {
-    Session { sheets: vec![sheet()], events: events().iter().map(EventRecord::of).collect() }
+    Session {
+        sheets: vec![bench::table_sheet()],
+        events: events().iter().map(EventRecord::of).collect(),
+    }
 }

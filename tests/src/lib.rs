@@ -7,15 +7,23 @@
 //! `random` and `sessions` invent lessons, `harness` compares an engine with this
 //! one over many of them, `bench` holds the readings and the maker's table that
 //! the papers give, and `worst` looks for the readings with the largest errors.
+//! `drift` sets the old program's area beside ours, and `figures` writes numbers for
+//! tables. With the feature of its name, `library` is the proved library.
+
+#![deny(unsafe_code)]
 
 pub mod bench;
 pub mod big;
+pub mod drift;
 pub mod engine;
 pub mod exact;
+pub mod figures;
 pub mod file;
 pub mod harness;
 pub mod ledger;
 pub mod lesson;
+#[cfg(feature = "library")]
+pub mod library;
 pub mod random;
 pub mod rules;
 pub mod sessions;

@@ -6,18 +6,6 @@ use crate::engine::SheetRecord;
 use crate::random::Random;
 use crate::rules::{self, Air, Refusal, Sheet};
 
-/// The sheet of the maker's table as a record.
-fn table_sheet() -> SheetRecord {
-    SheetRecord {
-        a1: bench::TABLE_SHEET.a1 as i32,
-        a2: bench::TABLE_SHEET.a2 as i32,
-        a3: bench::TABLE_SHEET.a3 as i32,
-        t0: bench::TABLE_SHEET.t0 as u32,
-        k: bench::TABLE_SHEET.k as u32,
-        rest: 0,
-    }
-}
-
 /// A sheet as makers give them.
 fn usual_sheet(random: &mut Random) -> SheetRecord {
     SheetRecord {
@@ -50,7 +38,7 @@ fn far_sheet(random: &mut Random) -> SheetRecord {
 pub fn good_sheet(random: &mut Random) -> SheetRecord {
     match random.below(6) {
         0 => bench::sheet(),
-        1 => table_sheet(),
+        1 => bench::table_sheet(),
         2 | 3 => usual_sheet(random),
         _ => far_sheet(random),
     }

@@ -1,0 +1,165 @@
+/*
+ * irga.h: the engine of an infrared CO2 analyser's teaching box, as a C library.
+ *
+ * A lesson is a session file: calibration sheets, then events (load a sheet, set the
+ * zero, read a sample, ...). irga_run answers each event with a record of 24 bytes;
+ * irga_reading and irga_area take the numbers out of such a record as doubles;
+ * irga_lines gives the same answers as text.
+ *
+ * The library is libhost.a, for x86-64. It needs nothing but the C library:
+ *
+ *     cc -std=c99 -Iinclude examples/readings.c target/staticlib/libhost.a -o readings
+ *
+ * What holds for all four functions:
+ *
+ * - No state is kept between calls and nothing is allocated. Any number of threads may
+ *   call at once, as long as no two of them are lent the same output.
+ * - No pointer may be NULL, not even with a length of 0, and the places that are lent to
+ *   one call may not overlap.
+ * - File, answer and output are bytes and need no alignment; size_t and double objects
+ *   have their usual one.
+ * - Only the places named as written are written; a function reads no byte beyond the
+ *   lengths that it is given.
+ * - Numbers in files and answers are little-endian, signed ones in two's complement.
+ */
+#ifndef IRGA_H
+#define IRGA_H
+
+#include <stddef.h>
+#include <stdint.h>
+
+#ifdef __cplusplus
+extern "C" {
+#endif
+
+/* A session file begins with a header of 16 bytes; sheets and events follow. */
+#define IRGA_HEADER_BYTES 16
+/* A sheet, an event and an answer have 24 bytes each. */
+#define IRGA_RECORD_BYTES 24
+/* A line of irga_lines has at most 72 bytes, its line feed included. */
+#define IRGA_LINE_ROOM 72
+
+#define IRGA_SHEETS_MAX 16
+#define IRGA_EVENTS_MAX 2700
+/* The longest session file: 16 + 24 * 16 + 24 * 2700. */
+#define IRGA_FILE_MAX 65200
+/* An output of this size is long enough for any session: 24 * 2700 and 72 * 2700. */
+#define IRGA_ANSWERS_MAX 64800
+#define IRGA_LINES_MAX 194400
+
+/* Where the fields of an answer begin. Bytes 2 and 3 are zero. */
+#define IRGA_ANSWER_KIND 0    /* u8: the event's kind as it stood in the file */
+#define IRGA_ANSWER_REFUSAL 1 /* u8: 0 if accepted, else an enum irga_refusal */
+#define IRGA_ANSWER_M 4       /* u32: see enum irga_kind; 0 in a refusal */
+#define IRGA_ANSWER_X 8       /* i64 */
+#define IRGA_ANSWER_Y 16      /* i64 */
+
+/*
+ * The kinds of event, and what an accepted one answers; fields not named are 0.
+ * Signals are in 100 nV, mole fractions in pmol/mol (10^6 of them are 1 umol/mol).
+ */
+enum irga_kind {
+    IRGA_LOAD = 1,      /* load a calibration sheet */
+    IRGA_ZERO = 2,      /* set the zero. x: the zero, a signal */
+    IRGA_SPAN = 3,      /* set the span. m: the span, in millionths */
+    IRGA_REFERENCE = 4, /* read against a reference gas from now on */
+    IRGA_ABSOLUTE = 5,  /* read against nothing from now on */
+    IRGA_SAMPLE = 6,    /* m: reference signal, 0 in absolute mode; x: wet; y: dry */
+    IRGA_START = 7,     /* start an integration; a reading counts for 0.2 s */
+    IRGA_STOP = 8,      /* stop it */
+    IRGA_AREA = 9       /* m: readings counted; x: area, in pmol/mol times 0.1 s */
+};
+
+/* Why an event (1 to 11), a file (12) or an output (13) is refused. */
+enum irga_refusal {
+    IRGA_ACCEPTED = 0,
+    IRGA_NO_SHEET = 1,             /* no sheet loaded, or its index not in the file */
+    IRGA_SHEET_LIMITS = 2,         /* sheet outside its limits, or its zero bytes not zero */
+    IRGA_ZERO_RANGE = 3,           /* zero beyond 20,000,000 on either side */
+    IRGA_CYLINDER_RANGE = 4,       /* cylinder, or its vapour pressure, outside its range */
+    IRGA_NO_SPAN = 5,              /* no span serves, or one below the lowest would */
+    IRGA_INPUT_LIMITS = 6,         /* raw signal, pressure, temperature or vapour pressure */
+    IRGA_BELOW_ZERO = 7,           /* the signal is below zero */
+    IRGA_OVER_RANGE = 8,           /* the signal or the mole fraction is over range */
+    IRGA_NO_REFERENCE_SIGNAL = 9,  /* no signal reads the reference cylinder */
+    IRGA_NOT_NOW = 10,             /* the event does not fit the mode or the integration */
+    IRGA_MALFORMED_EVENT = 11,     /* unknown kind, or a byte not zero that must be */
+    IRGA_MALFORMED_FILE = 12,      /* header or length not as the format says */
+    IRGA_OUTPUT_TOO_SHORT = 13     /* the output is shorter than the function asks */
+};
+
+/*
+ * Runs a whole session from a fresh engine and writes one answer for each event.
+ *
+ * file, file_length   the session file; at most IRGA_FILE_MAX bytes can be accepted
+ * out, out_length     where the answers go; 24 times the event count is enough, and
+ *                     IRGA_ANSWERS_MAX bytes always are
+ * written             gets the number of bytes written to out
+ *
+ * Returns IRGA_ACCEPTED, IRGA_MALFORMED_FILE or IRGA_OUTPUT_TOO_SHORT (out_length below
+ * 24 times the event count; a malformed file is told first). An event that is refused
+ * has its number in its own answer, and the run goes on.
+ *
+ * Touches: with 0, the first *written bytes of out, 24 times the event count, answer by
+ * answer in the events' order; with 12 or 13, *written is 0. All other bytes of out stay.
+ */
+uint8_t irga_run(const uint8_t *file, size_t file_length,
+                 uint8_t *out, size_t out_length, size_t *written);
+
+/*
+ * The same run as text, one line for each event: ordinal from 1, kind, refusal, m, x, y in
+ * decimal, single spaces between them and a line feed behind them. No zero byte ends the text.
+ *
+ * file, file_length   the session file
+ * out, out_length     where the text goes; 72 times the event count is enough, and
+ *                     IRGA_LINES_MAX bytes always are
+ * written             gets the length of the text
+ *
+ * Returns IRGA_ACCEPTED, IRGA_MALFORMED_FILE or IRGA_OUTPUT_TOO_SHORT (out_length below
+ * 72 times the event count, however short the lines would be; a malformed file is told
+ * first).
+ *
+ * Touches: with 0, the first *written bytes of out; with 12 or 13, *written is 0. All other
+ * bytes of out stay.
+ */
+uint8_t irga_lines(const uint8_t *file, size_t file_length,
+                   uint8_t *out, size_t out_length, size_t *written);
+
+/*
+ * The numbers of an accepted sample's answer, each the whole number exactly.
+ *
+ * answer, answer_length   an answer of irga_run; of more than 24 bytes the first 24 count
+ * wet, dry                get the mole fractions of CO2 in the moist air and in the air
+ *                         without its water vapour, in pmol/mol
+ * signal                  gets the reference signal in 100 nV, 0 in absolute mode
+ *
+ * Returns IRGA_ACCEPTED; or the refusal that the answer holds, whatever its kind; or
+ * IRGA_MALFORMED_EVENT for bytes that are no sample's answer: fewer than 24, an accepted
+ * event of another kind, or a wet or dry value of 2^53 or more in size, which a double
+ * might not hold.
+ *
+ * Touches: the three doubles if it returns 0, and nothing else.
+ */
+uint8_t irga_reading(const uint8_t *answer, size_t answer_length,
+                     double *wet, double *dry, double *signal);
+
+/*
+ * The area of an accepted area's answer, the whole number exactly: 2 S - (n - 1)(first + last)
+ * with S the sum of all n readings. That is every reading for 0.2 s, less the straight line
+ * from the first to the last over the n - 1 periods between them. It may be negative.
+ *
+ * answer, answer_length   an answer of irga_run; of more than 24 bytes the first 24 count
+ * area                    gets the area in pmol/mol times 0.1 s (10^7 of them are
+ *                         1 umol/mol s)
+ *
+ * Returns as irga_reading does, with an area for the sample.
+ *
+ * Touches: the double if it returns 0, and nothing else.
+ */
+uint8_t irga_area(const uint8_t *answer, size_t answer_length, double *area);
+
+#ifdef __cplusplus
+}
+#endif
+
+#endif

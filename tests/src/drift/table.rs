@@ -1,0 +1,67 @@
+//! The drift as a table.
+
+use super::{Point, READINGS_AN_HOUR, UNITS};
+use crate::exact::Fraction;
+use crate::figures::grouped;
+use crate::ledger::area_allowed;
+
+/// The lengths that the table shows: 20 minutes, then 1, 3, 6, 12 and 24 hours, and the
+/// longest integration.
+const LENGTHS: [u32; 7] = [6_000, 18_000, 54_000, 108_000, 216_000, 432_000, 600_000];
+
+fn lesson(readings: u32) -> String {
+    let minutes = readings / (READINGS_AN_HOUR / 60);
+    match (minutes / 60, minutes % 60) {
+        (0, minutes) => format!("{minutes} min"),
+        (hours, 0) => format!("{hours} h"),
+        (hours, minutes) => format!("{hours} h {minutes} min"),
+    }
+}
+
+/// In µmol/mol s, cut after some decimals.
+fn micro(area: &Fraction, digits: u32) -> String {
+    grouped(&area.times(&Fraction::of(1, UNITS)).decimal(digits))
+}
+
+fn row(point: &Point) -> String {
+    let readings = point.readings;
+    let allowed = Fraction::whole(area_allowed(u64::from(readings)));
+    let cells = [
+        grouped(&readings.to_string()),
+        lesson(readings),
+        micro(&point.exact, 1),
+        micro(&point.shown, 1),
+        micro(&point.unrounded, 1),
+        micro(&point.engine, 4),
+        micro(&allowed, 1),
+    ];
+    format!("| {} |\n", cells.join(" | "))
+}
+
+/// The distance that is largest in size, without its sign.
+fn largest(points: &[Point], distance: fn(&Point) -> &Fraction, digits: u32) -> String {
+    let sizes = points.iter().map(|point| distance(point).error_of(0).abs());
+    let farthest = points.iter().zip(sizes).max_by(|(_, one), (_, other)| one.total_cmp(other));
+    let text = farthest.map(|(point, _)| micro(distance(point), digits)).unwrap_or_default();
+    text.trim_start_matches('-').to_string()
+}
+
+/// The last row: the worst of all areas that were read, not only of those shown.
+fn worst(points: &[Point]) -> String {
+    let shown = largest(points, |point| &point.shown, 1);
+    let unrounded = largest(points, |point| &point.unrounded, 1);
+    let engine = largest(points, |point| &point.engine, 4);
+    let count = points.len();
+    format!("| the worst of {count} areas | | | {shown} | {unrounded} | {engine} | |\n")
+}
+
+/// The table in Markdown; everything but the first two columns is in µmol/mol s.
+pub fn text(points: &[Point]) -> String {
+    let mut text = "| readings | lesson | exact area | old way, shown to 0.1: off by | \
+                    old way, not rounded: off by | engine: off by | engine: proved to be within |\n"
+        .to_string();
+    text.push_str("|---:|---|---:|---:|---:|---:|---:|\n");
+    let wanted = points.iter().filter(|point| LENGTHS.contains(&point.readings));
+    text.extend(wanted.map(row));
+    text + &worst(points)
+}

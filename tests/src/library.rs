@@ -1,0 +1,69 @@
+//! The proved library: its four C functions as declared in include/irga.h, and a safe
+//! function over each. Slices and references meet what the header asks: no pointer is
+//! NULL, and places that are written overlap no other.
+
+use std::os::raw::c_double;
+
+use crate::file::Outcome;
+
+extern "C" {
+    fn irga_run(
+        file: *const u8,
+        file_length: usize,
+        out: *mut u8,
+        out_length: usize,
+        written: *mut usize,
+    ) -> u8;
+
+    fn irga_lines(
+        file: *const u8,
+        file_length: usize,
+        out: *mut u8,
+        out_length: usize,
+        written: *mut usize,
+    ) -> u8;
+
+    fn irga_reading(
+        answer: *const u8,
+        answer_length: usize,
+        wet: *mut c_double,
+        dry: *mut c_double,
+        signal: *mut c_double,
+    ) -> u8;
+
+    fn irga_area(answer: *const u8, answer_length: usize, area: *mut c_double) -> u8;
+}
+
+type OverLent = unsafe extern "C" fn(*const u8, usize, *mut u8, usize, *mut usize) -> u8;
+
+/// Calls one of the two functions over a lent file and a lent output.
+#[allow(unsafe_code)]
+fn over_lent(function: OverLent, file: &[u8], output: &mut [u8]) -> Outcome {
+    // No length of anything, so that a call that leaves it shows.
+    let mut written = usize::MAX;
+    let (out, room) = (output.as_mut_ptr(), output.len());
+    let status = unsafe { function(file.as_ptr(), file.len(), out, room, &mut written) };
+    Outcome { status, written }
+}
+
+/// Runs a lent file and writes the answers from the start of the lent output.
+pub fn run(file: &[u8], output: &mut [u8]) -> Outcome {
+    over_lent(irga_run, file, output)
+}
+
+/// Runs a lent file and writes the lines from the start of the lent output.
+pub fn lines(file: &[u8], output: &mut [u8]) -> Outcome {
+    over_lent(irga_lines, file, output)
+}
+
+/// Wet, dry and signal of a sample's answer.
+#[allow(unsafe_code)]
+pub fn reading(answer: &[u8], [wet, dry, signal]: &mut [f64; 3]) -> u8 {
+    unsafe { irga_reading(answer.as_ptr(), answer.len(), wet, dry, signal) }
+}
+
+/// The area of an area's answer.
+#[allow(unsafe_code)]
+pub fn area(answer: &[u8], area: &mut f64) -> u8 {
+    unsafe { irga_area(answer.as_ptr(), answer.len(), area) }
+}

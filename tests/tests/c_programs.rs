@@ -1,0 +1,274 @@
+//! What a C or C++ compiler makes of include/irga.h, and examples/readings.c linked with
+//! the archive: its figures are those of the lines, of this implementation and of the
+//! program that IRGA_PROGRAM names.
+
+use std::collections::HashMap;
+use std::fs::{self, File};
+use std::path::{Path, PathBuf};
+use std::process::{Command, Output, Stdio};
+
+use irga_tests::file::{self, Session};
+use irga_tests::harness::{Executable, Program};
+use irga_tests::random::Random;
+use irga_tests::rules::Refusal;
+use irga_tests::sessions::{self, PROFILES};
+
+const C: &[&str] = &["cc", "-std=c99"];
+const CPP: &[&str] = &["g++", "-std=c++11"];
+
+fn repository() -> &'static Path {
+    Path::new(env!("CARGO_MANIFEST_DIR")).parent().expect("the tests stand in a folder")
+}
+
+fn scratch(name: &str) -> PathBuf {
+    Path::new(env!("CARGO_TARGET_TMPDIR")).join(name)
+}
+
+/// Runs a compiler that takes no warning; what it says is the message of a failure.
+fn compile(compiler: &[&str], words: &[&str]) {
+    let output = Command::new(compiler[0])
+        .args(&compiler[1..])
+        .args(["-Wall", "-Wextra", "-Wpedantic", "-Werror", "-Iinclude"])
+        .args(words)
+        .current_dir(repository())
+        .output()
+        .unwrap_or_else(|why| panic!("cannot start {}: {why}", compiler[0]));
+    let said = String::from_utf8_lossy(&output.stderr);
+    assert!(output.status.success(), "{compiler:?} {words:?}:\n{said}");
+}
+
+/// Writes a source, compiles it, links it with the archive, and names the program.
+fn link(compiler: &[&str], name: &str, source: &str) -> PathBuf {
+    let (path, program) = (scratch(name), scratch(&format!("{name}.program")));
+    fs::write(&path, source).expect("the source can be written");
+    let words = [path.to_str(), Some(env!("IRGA_ARCHIVE")), Some("-o"), program.to_str()];
+    compile(compiler, &words.map(|word| word.expect("a path in UTF-8")));
+    program
+}
+
+#[test]
+fn header_stands_alone_in_c_and_in_cpp() {
+    compile(C, &["-fsyntax-only", "-x", "c", "include/irga.h"]);
+    compile(CPP, &["-fsyntax-only", "-x", "c++", "include/irga.h"]);
+}
+
+/// The header's constants by name, and what this implementation or document 01 has.
+fn constants() -> Vec<(&'static str, usize)> {
+    let (sheets, events) = (file::SHEETS_LIMIT, file::EVENTS_LIMIT);
+    let full = Session {
+        sheets: vec![irga_tests::bench::sheet(); sheets],
+        events: vec![Default::default(); events],
+    };
+    let refusal = |refusal: Refusal| usize::from(refusal.number());
+    vec![
+        ("IRGA_HEADER_BYTES", file::HEADER_BYTES),
+        ("IRGA_RECORD_BYTES", file::RECORD_BYTES),
+        ("IRGA_LINE_ROOM", file::LINE_ROOM),
+        ("IRGA_SHEETS_MAX", sheets),
+        ("IRGA_EVENTS_MAX", events),
+        ("IRGA_FILE_MAX", full.to_bytes().len()),
+        ("IRGA_ANSWERS_MAX", file::RECORD_BYTES * events),
+        ("IRGA_LINES_MAX", file::LINE_ROOM * events),
+        ("IRGA_ACCEPTED", 0),
+        ("IRGA_NO_SHEET", refusal(Refusal::NoSheet)),
+        ("IRGA_SHEET_LIMITS", refusal(Refusal::SheetOutsideLimits)),
+        ("IRGA_ZERO_RANGE", refusal(Refusal::ZeroOutsideRange)),
+        ("IRGA_CYLINDER_RANGE", refusal(Refusal::CylinderOutsideRange)),
+        ("IRGA_NO_SPAN", refusal(Refusal::NoSpanServes)),
+        ("IRGA_INPUT_LIMITS", refusal(Refusal::InputOutsideLimits)),
+        ("IRGA_BELOW_ZERO", refusal(Refusal::BelowZero)),
+        ("IRGA_OVER_RANGE", refusal(Refusal::OverRange)),
+        ("IRGA_NO_REFERENCE_SIGNAL", refusal(Refusal::NoReferenceSignal)),
+        ("IRGA_NOT_NOW", refusal(Refusal::NotNow)),
+        ("IRGA_MALFORMED_EVENT", refusal(Refusal::MalformedEvent)),
+        ("IRGA_MALFORMED_FILE", refusal(Refusal::MalformedFile)),
+        ("IRGA_OUTPUT_TOO_SHORT", refusal(Refusal::OutputTooShort)),
+    ]
+}
+
+/// Names of the kinds in document 01's order.
+const KINDS: [&str; 9] =
+    ["LOAD", "ZERO", "SPAN", "REFERENCE", "ABSOLUTE", "SAMPLE", "START", "STOP", "AREA"];
+
+/// An array of −1 elements does not compile: one for each constant that is another.
+#[test]
+fn constants_are_those_of_the_format() {
+    let kinds = KINDS.iter().zip(1..).map(|(name, kind)| (format!("IRGA_{name}"), kind));
+    let named = constants().into_iter().map(|(name, value)| (name.to_string(), value));
+    let tests = named.chain(kinds).enumerate().map(|(i, (name, value))| {
+        format!("typedef char test_{i}[(int)({name}) == {value} ? 1 : -1];\n")
+    });
+    let source: String = tests.collect();
+    let path = scratch("constants.c");
+    fs::write(&path, format!("#include \"irga.h\"\n{source}")).expect("a written source");
+    compile(C, &["-fsyntax-only", path.to_str().expect("a path in UTF-8")]);
+}
+
+/// A program that calls all four functions and gives their sum of statuses: 12 + 12 for a
+/// file of one byte, 11 + 11 for an answer of one.
+const CALLS: &str = r#"
+#include "irga.h"
+int main(void) {
+    uint8_t byte = 0, out = 7;
+    size_t written = 1;
+    double a = 1, b = 2, c = 3;
+    int sum = irga_run(&byte, 1, &out, 1, &written);
+    sum += irga_lines(&byte, 1, &out, 1, &written);
+    sum += irga_reading(&byte, 1, &a, &b, &c);
+    sum += irga_area(&byte, 1, &a);
+    return written == 0 && out == 7 && a == 1 && b == 2 && c == 3 ? sum : 0;
+}
+"#;
+
+#[test]
+fn all_four_functions_link_from_c_and_from_cpp() {
+    for (compiler, name) in [(C, "calls.c"), (CPP, "calls.cpp")] {
+        let status = Command::new(link(compiler, name, CALLS)).status();
+        let status = status.expect("the program starts").code();
+        assert_eq!(status, Some(12 + 12 + 11 + 11), "{name}");
+    }
+}
+
+/// examples/readings.c, compiled for one test.
+fn readings(test: &str) -> PathBuf {
+    let source = fs::read_to_string(repository().join("examples/readings.c"));
+    link(C, &format!("readings-{test}.c"), &source.expect("the example is there"))
+}
+
+fn run(program: &Path, words: &[&Path], input: Option<&Path>) -> Output {
+    let open = |path: &Path| Stdio::from(File::open(path).expect("the session can be opened"));
+    Command::new(program)
+        .args(words)
+        .stdin(input.map_or_else(Stdio::null, open))
+        .output()
+        .expect("the program starts")
+}
+
+/// A whole number of the smallest units in decimals, by whole numbers alone.
+fn decimal(number: i64, digits: u32) -> String {
+    let unit = 10u64.pow(digits);
+    let size = number.unsigned_abs();
+    let sign = if number < 0 { "-" } else { "" };
+    format!("{sign}{}.{:0width$}", size / unit, size % unit, width = digits as usize)
+}
+
+/// What the program owes to one line of a session; of a refusal only what comes before
+/// its meaning.
+fn owed(line: &str) -> Option<String> {
+    let numbers: Vec<i64> = line.split(' ').map(|word| word.parse().expect("a number")).collect();
+    let &[ordinal, kind, refusal, _, x, y] = &numbers[..] else {
+        panic!("a line of {} numbers", numbers.len());
+    };
+    match (refusal, kind) {
+        (0, 6) => {
+            let (wet, dry) = (decimal(x, 6), decimal(y, 6));
+            Some(format!("{ordinal}: wet {wet} umol/mol, dry {dry} umol/mol"))
+        }
+        (0, 9) => Some(format!("{ordinal}: area {} umol/mol s", decimal(x, 7))),
+        (0, _) => None,
+        _ => Some(format!("{ordinal}: refused {refusal}, ")),
+    }
+}
+
+/// Compares what was printed with the lines of a session, and gathers what each refusal
+/// number was said to mean.
+fn assert_owed(printed: &[u8], lines: &str, meanings: &mut HashMap<String, String>) {
+    let printed = std::str::from_utf8(printed).expect("a text");
+    assert!(printed.is_empty() || printed.ends_with('\n'));
+    let owed: Vec<String> = lines.lines().filter_map(owed).collect();
+    assert_eq!(printed.lines().count(), owed.len());
+    for (line, owed) in printed.lines().zip(&owed) {
+        let Some((_, number)) = owed.split_once(": refused ") else {
+            assert_eq!(line, owed);
+            continue;
+        };
+        let meaning = line.strip_prefix(owed.as_str()).unwrap_or_else(|| panic!("{line}, {owed}"));
+        assert!(!meaning.is_empty());
+        let known = meanings.entry(number.to_string()).or_insert_with(|| meaning.to_string());
+        assert_eq!(known, meaning);
+    }
+}
+
+/// The lines of a session by this implementation, which are those of the program under
+/// test too, if one is named.
+fn lines(session: &[u8]) -> String {
+    let ours = file::program(session);
+    if let Ok(path) = std::env::var("IRGA_PROGRAM") {
+        let printed = Executable { path: PathBuf::from(path) }.print(session);
+        assert_eq!(printed.expect("the program runs"), ours.as_bytes());
+    }
+    ours
+}
+
+#[test]
+fn readings_of_the_lesson() {
+    let program = readings("lesson");
+    let path = repository().join("examples/lesson.session");
+    let session = fs::read(&path).expect("the lesson is there");
+    let mut meanings = HashMap::new();
+    for output in [run(&program, &[&path], None), run(&program, &[], Some(&path))] {
+        assert_eq!(output.status.code(), Some(0));
+        assert!(output.stderr.is_empty());
+        assert_owed(&output.stdout, &lines(&session), &mut meanings);
+        assert_eq!(output.stdout.iter().filter(|byte| **byte == b'\n').count(), 300 + 1);
+    }
+    assert!(meanings.is_empty(), "the lesson has no refusal");
+}
+
+/// Sessions of every profile, until every refusal of an event was met; each number has one
+/// meaning and no two have the same.
+#[test]
+fn readings_of_sessions_with_refusals() {
+    let program = readings("refusals");
+    let path = scratch("refusals.session");
+    let mut random = Random::new(0x6268);
+    let mut meanings = HashMap::new();
+    for profile in PROFILES.iter().cycle().take(12 * PROFILES.len()) {
+        let session = sessions::session(&mut random, profile).to_bytes();
+        fs::write(&path, &session).expect("the session can be written");
+        let output = run(&program, &[&path], None);
+        assert_eq!(output.status.code(), Some(0));
+        assert_owed(&output.stdout, &lines(&session), &mut meanings);
+    }
+    let mut numbers: Vec<&str> = meanings.keys().map(String::as_str).collect();
+    numbers.sort_by_key(|number| number.len());
+    let mut texts: Vec<&String> = meanings.values().collect();
+    texts.sort();
+    texts.dedup();
+    assert_eq!((numbers.len(), texts.len()), (11, 11), "{numbers:?}");
+}
+
+/// Asserts an exit status, no reading, and a message that holds some words.
+fn assert_said(output: &Output, status: i32, words: &str) {
+    let said = String::from_utf8_lossy(&output.stderr);
+    assert_eq!(output.status.code(), Some(status), "{said}");
+    assert!(output.stdout.is_empty() && said.contains(words), "{said}");
+}
+
+#[test]
+fn readings_of_what_is_no_session() {
+    let program = readings("trouble");
+    let lesson = fs::read(repository().join("examples/lesson.session")).expect("the lesson");
+    let damaged = scratch("damaged.session");
+    fs::write(&damaged, &lesson[..lesson.len() - 1]).expect("a written file");
+    assert_said(&run(&program, &[&damaged], None), 1, "refused 12, ");
+    let long = scratch("long.session");
+    fs::write(&long, vec![0; 65_201]).expect("a written file");
+    assert_said(&run(&program, &[&long], None), 1, "refused 12, ");
+    assert_said(&run(&program, &[&scratch("nothing.session")], None), 2, "cannot open");
+    assert_said(&run(&program, &[repository()], None), 2, "cannot read");
+    assert_said(&run(&program, &[&damaged, &damaged], None), 2, "usage");
+    assert_said(&run(&program, &[], None), 1, "refused 12, ");
+}
+
+/// A device that takes nothing: the lines are lost, and the status says so.
+#[test]
+fn readings_that_cannot_be_written() {
+    let full = File::options().write(true).open("/dev/full").expect("a full device");
+    let output = Command::new(readings("full"))
+        .arg(repository().join("examples/lesson.session"))
+        .stdout(full)
+        .output()
+        .expect("the program starts");
+    assert_said(&output, 2, "cannot write");
+}

@@ -36,6 +36,14 @@ pub struct Executable {
     pub path: PathBuf,
 }
 
+impl Executable {
+    /// The program under test, if the environment variable IRGA_PROGRAM names one.
+    pub fn under_test() -> Option<Executable> {
+        let path = std::env::var_os("IRGA_PROGRAM")?;
+        Some(Executable { path: PathBuf::from(path) })
+    }
+}
+
 impl Program for Executable {
     fn print(&mut self, input: &[u8]) -> Result<Vec<u8>, String> {
         let fault = |what: &str, why: std::io::Error| format!("cannot {what}: {why}");

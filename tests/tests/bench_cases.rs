@@ -4,6 +4,7 @@
 use irga_tests::bench;
 use irga_tests::engine::{step, Answer, Entry, Event, SheetRecord, State};
 use irga_tests::file::{self, EventRecord, Session};
+use irga_tests::harness::{Executable, Program};
 use irga_tests::rules::{absolute_reading, dry_value, steps, Air, Refusal, Sheet};
 
 fn sheet() -> Sheet {
@@ -127,17 +128,45 @@ fn zero_and_sheet_limits() {
     assert_eq!(last_answer(&without_a1, &[LOAD]), refused(1, 2));
 }
 
+/// What a session prints, by this implementation and by the program under test.
+fn printed(sheets: &[SheetRecord], events: &[Event]) -> String {
+    let events = events.iter().map(EventRecord::of).collect();
+    let bytes = Session { sheets: sheets.to_vec(), events }.to_bytes();
+    let text = file::program(&bytes);
+    if let Some(mut program) = Executable::under_test() {
+        assert_eq!(program.print(&bytes).as_deref(), Ok(text.as_bytes()));
+    }
+    text
+}
+
+/// The cases that no theorem has, in one session.
+#[test]
+fn cases_without_a_star() {
+    let sheets = [bench::sheet(), SheetRecord { a1: 0, ..bench::sheet() }];
+    let zero = |raw: i32| Event::Zero { raw };
+    let events = [
+        LOAD,
+        zero(20_000_000),
+        zero(20_000_001),
+        zero(0),
+        sample(70_000_000),
+        Event::Load { index: 1 },
+    ];
+    let expected = "1 1 0 0 0 0\n\
+                    2 2 0 0 20000000 0\n\
+                    3 2 3 0 0 0\n\
+                    4 2 0 0 0 0\n\
+                    5 6 8 0 0 0\n\
+                    6 1 2 0 0 0\n";
+    assert_eq!(printed(&sheets, &events), expected);
+}
+
 #[test]
 fn printed_example() {
     let events = [LOAD, REFERENCE, sample(10_000_000), Event::Area];
-    let session = Session {
-        sheets: vec![bench::sheet()],
-        events: events.iter().map(EventRecord::of).collect(),
-    };
-    let printed = file::program(&session.to_bytes());
     let expected = "1 1 0 0 0 0\n\
                     2 4 0 0 0 0\n\
                     3 6 0 40000000 1388160000 1388160000\n\
                     4 9 10 0 0 0\n";
-    assert_eq!(printed, expected);
+    assert_eq!(printed(&[bench::sheet()], &events), expected);
 }

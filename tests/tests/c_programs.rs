@@ -193,8 +193,8 @@ fn assert_owed(printed: &[u8], lines: &str, meanings: &mut HashMap<String, Strin
 /// test too, if one is named.
 fn lines(session: &[u8]) -> String {
     let ours = file::program(session);
-    if let Ok(path) = std::env::var("IRGA_PROGRAM") {
-        let printed = Executable { path: PathBuf::from(path) }.print(session);
+    if let Some(mut program) = Executable::under_test() {
+        let printed = program.print(session);
         assert_eq!(printed.expect("the program runs"), ours.as_bytes());
     }
     ours

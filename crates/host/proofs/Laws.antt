@@ -17,7 +17,7 @@ use Rattle.layout.specs.declared.AnswerRecord.{AnswerRecord}
 use Rattle.layout.specs.Records.{answerAt}
 use Rattle.host.specs.declared.Doubles.{Doubles}
 use Rattle.host.specs.declared.HostAnswer.{HostAnswer}
-use Rattle.host.specs.Doubles.{doubleOf, Whole, belowLimit, doublesOf, acceptedAs, numberOf, sampleOf, areaOf, sampleIn, areaIn}
+use Rattle.host.specs.Doubles.{doubleOf, Whole, belowLimit, doublesOf, acceptedAs, refusedWith, hostSample, hostArea, hostSampleIn, hostAreaIn}
 
 pub below : (z : ℤ) → belowLimit z ≡ true → natAbs z < 2 ^ 53
 below z e = ltb-true (natAbs z) (2 ^ 53) e
@@ -54,20 +54,20 @@ NoArea (HostAnswer.Reading d) = Unit
 NoArea (HostAnswer.Area v) = ⊥
 NoArea (HostAnswer.Refused number) = Unit
 
-pub sample-no-area : (b : List ℕ) {v : Float} → sampleIn b ≡ HostAnswer.Area v → ⊥
-unfolding sampleOf sampleIn
+pub sample-no-area : (b : List ℕ) {v : Float} → hostSampleIn b ≡ HostAnswer.Area v → ⊥
+unfolding hostSample hostSampleIn
 sample-no-area b e =
     let a = answerAt b 0 in
     subst NoArea e
-    (any NoArea (leb 24 (length b)) (acceptedAs 6 a && belowLimit (a .y)) (HostAnswer.Reading (doublesOf a)) (numberOf a) tt tt tt)
+    (any NoArea (leb 24 (length b)) (acceptedAs 6 a && belowLimit (a .y)) (HostAnswer.Reading (doublesOf a)) (refusedWith a) tt tt tt)
 
 abbrev NoReading : HostAnswer → Type 0
 NoReading (HostAnswer.Reading d) = ⊥
 NoReading (HostAnswer.Area v) = Unit
 NoReading (HostAnswer.Refused number) = Unit
 
-pub area-no-reading : (b : List ℕ) {d : Doubles} → areaIn b ≡ HostAnswer.Reading d → ⊥
-unfolding areaOf areaIn
+pub area-no-reading : (b : List ℕ) {d : Doubles} → hostAreaIn b ≡ HostAnswer.Reading d → ⊥
+unfolding hostArea hostAreaIn
 area-no-reading b e =
     let a = answerAt b 0 in
-    subst NoReading e (any NoReading (leb 24 (length b)) (acceptedAs 9 a) (HostAnswer.Area (doubleOf (a .x))) (numberOf a) tt tt tt)
+    subst NoReading e (any NoReading (leb 24 (length b)) (acceptedAs 9 a) (HostAnswer.Area (doubleOf (a .x))) (refusedWith a) tt tt tt)

@@ -30,16 +30,16 @@ belowLimit z = ltb (natAbs z) (2 ^ 53)
 -- ---- the paper's numbers of a host's answer
 
 -- the refusal number, 0 if accepted
-abbrev pub refusalOf : HostAnswer → ℕ
-refusalOf (HostAnswer.Reading d) = 0
-refusalOf (HostAnswer.Area v) = 0
-refusalOf (HostAnswer.Refused number) = number
+abbrev pub hostRefusal : HostAnswer → ℕ
+hostRefusal (HostAnswer.Reading d) = 0
+hostRefusal (HostAnswer.Area v) = 0
+hostRefusal (HostAnswer.Refused number) = number
 
 -- the doubles: of a reading wet, dry and signal, of an area the area
-abbrev pub valuesOf : HostAnswer → List Float
-valuesOf (HostAnswer.Reading d) = d .wet ∷ d .dry ∷ d .signal ∷ []
-valuesOf (HostAnswer.Area v) = v ∷ []
-valuesOf (HostAnswer.Refused number) = []
+abbrev pub hostValues : HostAnswer → List Float
+hostValues (HostAnswer.Reading d) = d .wet ∷ d .dry ∷ d .signal ∷ []
+hostValues (HostAnswer.Area v) = v ∷ []
+hostValues (HostAnswer.Refused number) = []
 
 -- ---- from an answer record
 
@@ -52,16 +52,16 @@ abbrev pub acceptedAs : ℕ → AnswerRecord → Bool
 acceptedAs kind a = eqb (a .refusal) 0 && eqb (a .kind) kind && belowLimit (a .x)
 
 -- any other record is refused: with its own number, or where it has none with 11, malformed, since no engine answers so
-abbrev pub numberOf : AnswerRecord → ℕ
-numberOf a = cond (eqb (a .refusal) 0) 11 (a .refusal)
+abbrev pub refusedWith : AnswerRecord → ℕ
+refusedWith a = cond (eqb (a .refusal) 0) 11 (a .refusal)
 
 -- of a sample, kind 6, y is below the limit as well
-unfoldable pub sampleOf : AnswerRecord → HostAnswer
-sampleOf a = cond (acceptedAs 6 a && belowLimit (a .y)) (HostAnswer.Reading (doublesOf a)) (HostAnswer.Refused (numberOf a))
+unfoldable pub hostSample : AnswerRecord → HostAnswer
+hostSample a = cond (acceptedAs 6 a && belowLimit (a .y)) (HostAnswer.Reading (doublesOf a)) (HostAnswer.Refused (refusedWith a))
 
 -- of an area, kind 9
-unfoldable pub areaOf : AnswerRecord → HostAnswer
-areaOf a = cond (acceptedAs 9 a) (HostAnswer.Area (doubleOf (a .x))) (HostAnswer.Refused (numberOf a))
+unfoldable pub hostArea : AnswerRecord → HostAnswer
+hostArea a = cond (acceptedAs 9 a) (HostAnswer.Area (doubleOf (a .x))) (HostAnswer.Refused (refusedWith a))
 
 -- each double of the answer is its number of the record exactly
 abbrev pub Exactly : HostAnswer → AnswerRecord → Type 0
@@ -72,8 +72,8 @@ Exactly (HostAnswer.Refused number) a = Unit
 -- ---- from the bytes of a record
 
 -- fewer than 24 are malformed, 11
-unfoldable pub sampleIn : List ℕ → HostAnswer
-sampleIn b = cond (leb 24 (length b)) (sampleOf (answerAt b 0)) (HostAnswer.Refused 11)
+unfoldable pub hostSampleIn : List ℕ → HostAnswer
+hostSampleIn b = cond (leb 24 (length b)) (hostSample (answerAt b 0)) (HostAnswer.Refused 11)
 
-unfoldable pub areaIn : List ℕ → HostAnswer
-areaIn b = cond (leb 24 (length b)) (areaOf (answerAt b 0)) (HostAnswer.Refused 11)
+unfoldable pub hostAreaIn : List ℕ → HostAnswer
+hostAreaIn b = cond (leb 24 (length b)) (hostArea (answerAt b 0)) (HostAnswer.Refused 11)

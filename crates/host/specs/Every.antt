@@ -10,7 +10,7 @@ use Rattle.engine.specs.Step.{stepOf}
 use Rattle.session.specs.Entries.{entryOf}
 use Rattle.session.specs.Run.{recordOf}
 use Rattle.host.specs.declared.HostAnswer.{HostAnswer}
-use Rattle.host.specs.Doubles.{doubleOf, doublesOf, sampleOf, areaOf, Exactly}
+use Rattle.host.specs.Doubles.{doubleOf, doublesOf, hostSample, hostArea, Exactly}
 
 -- the record that the engine answers an event with, under any sheets and from any state
 abbrev pub answerTo : List ℕ → State → EventRecord → AnswerRecord
@@ -24,9 +24,9 @@ pub record Given (got wanted : HostAnswer) (a : AnswerRecord) : Type 0 where
 abbrev pub EveryReading : Type 0
 EveryReading =
     (sheets : List ℕ) (st : State) (r : EventRecord) → answerTo sheets st r .kind ≡ 6 → answerTo sheets st r .refusal ≡ 0
-    → Given (sampleOf (answerTo sheets st r)) (HostAnswer.Reading (doublesOf (answerTo sheets st r))) (answerTo sheets st r)
+    → Given (hostSample (answerTo sheets st r)) (HostAnswer.Reading (doublesOf (answerTo sheets st r))) (answerTo sheets st r)
 
 abbrev pub EveryArea : Type 0
 EveryArea =
     (sheets : List ℕ) (st : State) (r : EventRecord) → answerTo sheets st r .kind ≡ 9 → answerTo sheets st r .refusal ≡ 0
-    → Given (areaOf (answerTo sheets st r)) (HostAnswer.Area (doubleOf (answerTo sheets st r .x))) (answerTo sheets st r)
+    → Given (hostArea (answerTo sheets st r)) (HostAnswer.Area (doubleOf (answerTo sheets st r .x))) (answerTo sheets st r)

@@ -1,7 +1,7 @@
 // Answer records as doubles. A whole number below 2^53 in size becomes a double by `as`, and nothing is lost.
 ghost use mathlib.Core.Path.{_≡_};
 ghost use mathlib.Core.Bool.{_&&_};
-ghost use Rattle.host.specs.Doubles.{belowLimit, acceptedAs, numberOf, sampleOf, areaOf, Exactly, sampleIn, areaIn};
+ghost use Rattle.host.specs.Doubles.{belowLimit, acceptedAs, refusedWith, hostSample, hostArea, Exactly, hostSampleIn, hostAreaIn};
 use crate::Doubles;
 use crate::HostAnswer;
 use layout::AnswerRecord;
@@ -12,11 +12,11 @@ const RECORD_BYTES: usize = 24;
 
 // The answer to a sample. A record that no sample of the engine gets is malformed.
 pub fn of_sample(a: AnswerRecord) -> HostAnswer
-    ensures { λ r. ⌜ r ≡ sampleOf a ⌝ }
+    ensures { λ r. ⌜ r ≡ hostSample a ⌝ }
     ensures { λ r. ⌜ Exactly r a ⌝ }
 {
     if !is_sample(a) {
-        return HostAnswer::Refused(number_of(a));
+        return HostAnswer::Refused(refused_with(a));
     }
     HostAnswer::Reading(Doubles {
         wet: a.x as f64,
@@ -27,18 +27,18 @@ pub fn of_sample(a: AnswerRecord) -> HostAnswer
 
 // The answer to an area event, in the same way.
 pub fn of_area(a: AnswerRecord) -> HostAnswer
-    ensures { λ r. ⌜ r ≡ areaOf a ⌝ }
+    ensures { λ r. ⌜ r ≡ hostArea a ⌝ }
     ensures { λ r. ⌜ Exactly r a ⌝ }
 {
     if !accepted(a, 9) {
-        return HostAnswer::Refused(number_of(a));
+        return HostAnswer::Refused(refused_with(a));
     }
     HostAnswer::Area(a.x as f64)
 }
 
 // The answer to a sample from the bytes of its record. What stands after them is not read.
 pub fn sample_in(answer: &[u8]) -> HostAnswer
-    ensures { λ r. ⌜ r ≡ sampleIn (now (answer .entry)) ⌝ }
+    ensures { λ r. ⌜ r ≡ hostSampleIn (now (answer .entry)) ⌝ }
 {
     if answer.len() < RECORD_BYTES {
         return HostAnswer::Refused(11);
@@ -48,7 +48,7 @@ pub fn sample_in(answer: &[u8]) -> HostAnswer
 
 // The answer to an area event from the bytes of its record.
 pub fn area_in(answer: &[u8]) -> HostAnswer
-    ensures { λ r. ⌜ r ≡ areaIn (now (answer .entry)) ⌝ }
+    ensures { λ r. ⌜ r ≡ hostAreaIn (now (answer .entry)) ⌝ }
 {
     if answer.len() < RECORD_BYTES {
         return HostAnswer::Refused(11);
@@ -79,9 +79,9 @@ fn accepted(a: AnswerRecord, kind: u8) -> bool
     below_limit(a.x)
 }
 
-// The number of a refusal, 11 where the record has none.
-fn number_of(a: AnswerRecord) -> u8
-    ensures { λ r. ⌜ r ≡ numberOf a ⌝ }
+// The number that a record is refused with: its own, or 11 where it has none.
+fn refused_with(a: AnswerRecord) -> u8
+    ensures { λ r. ⌜ r ≡ refusedWith a ⌝ }
 {
     if a.refusal != 0 { a.refusal } else { 11 }
 }

@@ -3,7 +3,7 @@ ghost use mathlib.Core.Path.{_≡_};
 ghost use lib.ListN.{length, getD};
 ghost use Rattle.session.specs.Run.{statusOf, writtenOf, outputOf};
 ghost use Rattle.session.specs.Text.{linesStatus, linesWritten, linesOutput};
-ghost use Rattle.host.specs.Doubles.{refusalOf, valuesOf, sampleIn, areaIn};
+ghost use Rattle.host.specs.Doubles.{hostRefusal, hostValues, hostSampleIn, hostAreaIn};
 use crate::HostAnswer;
 use crate::answers::area_in;
 use crate::answers::sample_in;
@@ -39,10 +39,10 @@ pub extern "C" fn irga_lines(file: &[u8], out: &mut [u8], written: &mut usize) -
 // The answer to a sample, from its 24 bytes: 0 with wet, dry and signal, or a refusal, which leaves all three as they were.
 #[no_mangle]
 pub extern "C" fn irga_reading(answer: &[u8], wet: &mut f64, dry: &mut f64, signal: &mut f64) -> u8
-    ensures { λ r. ⌜ r ≡ refusalOf (sampleIn (now (answer .entry))) ⌝ }
-    ensures { λ _. ⌜ now (wet .exit) ≡ getD (valuesOf (sampleIn (now (answer .entry)))) 0 (now (wet .entry)) ⌝ }
-    ensures { λ _. ⌜ now (dry .exit) ≡ getD (valuesOf (sampleIn (now (answer .entry)))) 1 (now (dry .entry)) ⌝ }
-    ensures { λ _. ⌜ now (signal .exit) ≡ getD (valuesOf (sampleIn (now (answer .entry)))) 2 (now (signal .entry)) ⌝ }
+    ensures { λ r. ⌜ r ≡ hostRefusal (hostSampleIn (now (answer .entry))) ⌝ }
+    ensures { λ _. ⌜ now (wet .exit) ≡ getD (hostValues (hostSampleIn (now (answer .entry)))) 0 (now (wet .entry)) ⌝ }
+    ensures { λ _. ⌜ now (dry .exit) ≡ getD (hostValues (hostSampleIn (now (answer .entry)))) 1 (now (dry .entry)) ⌝ }
+    ensures { λ _. ⌜ now (signal .exit) ≡ getD (hostValues (hostSampleIn (now (answer .entry)))) 2 (now (signal .entry)) ⌝ }
 {
     let got = sample_in(answer);
     match got {
@@ -61,8 +61,8 @@ pub extern "C" fn irga_reading(answer: &[u8], wet: &mut f64, dry: &mut f64, sign
 // The answer to an area event, from its 24 bytes: 0 with the area, or a refusal, which leaves it as it was.
 #[no_mangle]
 pub extern "C" fn irga_area(answer: &[u8], area: &mut f64) -> u8
-    ensures { λ r. ⌜ r ≡ refusalOf (areaIn (now (answer .entry))) ⌝ }
-    ensures { λ _. ⌜ now (area .exit) ≡ getD (valuesOf (areaIn (now (answer .entry)))) 0 (now (area .entry)) ⌝ }
+    ensures { λ r. ⌜ r ≡ hostRefusal (hostAreaIn (now (answer .entry))) ⌝ }
+    ensures { λ _. ⌜ now (area .exit) ≡ getD (hostValues (hostAreaIn (now (answer .entry)))) 0 (now (area .entry)) ⌝ }
 {
     let got = area_in(answer);
     match got {

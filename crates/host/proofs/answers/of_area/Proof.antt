@@ -5,7 +5,7 @@ use borrow.Author.Needs.{needs}
 use borrow.Author.Tests.{not-true, not-false}
 use mir.Syntax.{w64}
 use mir.Val.{toZ, ofZ}
-use Rattle.host.specs.Doubles.{acceptedAs, areaOf}
+use Rattle.host.specs.Doubles.{acceptedAs, hostArea}
 use Rattle.host.proofs.Laws.{in-float, is-whole, below, x-limit}
 use Rattle.host.proofs.answers.of_area.Statement.{statement}
 use Rattle.host.proofs.answers.of_area.Tie as tie
@@ -13,12 +13,12 @@ use Rattle.host.proofs.answers.of_area.Tie as tie
 accepted-requires : tie.Need-accepted-requires
 accepted-requires c κs = search needs
 
-number-of-requires : tie.Need-number-of-requires
-number-of-requires c κs = search needs
+refused-with-requires : tie.Need-refused-with-requires
+refused-with-requires c κs = search needs
 
 returns : tie.Need-returns
-unfolding areaOf
-returns c = (rw (sym (c .before .before .accepted .ensures) ∙ not-true _ (c .before .if1 .taken), c .number-of .ensures), tt)
+unfolding hostArea
+returns c = (rw (sym (c .before .before .accepted .ensures) ∙ not-true _ (c .before .if1 .taken), c .refused-with .ensures), tt)
 
 -- past the test it is an area
 area : (c : tie.Else1) → acceptedAs 9 (c .before .before .args .a) ≡ true
@@ -31,7 +31,7 @@ int-to-float-t5 c =
     rw x (in-float (a .x) (x-limit 9 a (area (c .before .before))))
 
 returns-2 : tie.Need-returns-2
-unfolding areaOf
+unfolding hostArea
 returns-2 c =
     let d = c .before .before in
     let a = d .before .before .args .a in
@@ -39,4 +39,4 @@ returns-2 c =
     rw x (rw (area d), is-whole (a .x) (below (a .x) (x-limit 9 a (area d))))
 
 pub of-area-spec : {M : Type 1} → statement M
-of-area-spec = tie.close (tie.spec accepted-requires number-of-requires returns int-to-float-t5 returns-2)
+of-area-spec = tie.close (tie.spec accepted-requires refused-with-requires returns int-to-float-t5 returns-2)

@@ -8,7 +8,7 @@ use borrow.Author.Tests.{not-true, not-false}
 use lib.IntN.{pos}
 use mir.Syntax.{w64}
 use mir.Val.{toZ, ofZ}
-use Rattle.host.specs.Doubles.{acceptedAs, belowLimit, sampleOf}
+use Rattle.host.specs.Doubles.{acceptedAs, belowLimit, hostSample}
 use Rattle.host.proofs.Laws.{in-float, is-whole, below, sample-limits}
 use Rattle.host.proofs.answers.of_sample.Statement.{statement}
 use Rattle.host.proofs.answers.of_sample.Tie as tie
@@ -16,12 +16,12 @@ use Rattle.host.proofs.answers.of_sample.Tie as tie
 is-sample-requires : tie.Need-is-sample-requires
 is-sample-requires c κs = search needs
 
-number-of-requires : tie.Need-number-of-requires
-number-of-requires c κs = search needs
+refused-with-requires : tie.Need-refused-with-requires
+refused-with-requires c κs = search needs
 
 returns : tie.Need-returns
-unfolding sampleOf
-returns c = (rw (sym (c .before .before .is-sample .ensures) ∙ not-true _ (c .before .if1 .taken), c .number-of .ensures), tt)
+unfolding hostSample
+returns c = (rw (sym (c .before .before .is-sample .ensures) ∙ not-true _ (c .before .if1 .taken), c .refused-with .ensures), tt)
 
 -- past the test it is a sample
 sample : (c : tie.Else1) → (acceptedAs 6 (c .before .before .args .a) && belowLimit (c .before .before .args .a .y)) ≡ true
@@ -43,7 +43,7 @@ int-to-float-t7 : tie.Need-int-to-float-t7
 int-to-float-t7 c = search needs
 
 returns-2 : tie.Need-returns-2
-unfolding sampleOf
+unfolding hostSample
 returns-2 c =
     let d = c .before .before .before .before .before in
     let a = d .before .before .args .a in
@@ -55,4 +55,4 @@ returns-2 c =
 
 pub of-sample-spec : {M : Type 1} → statement M
 of-sample-spec =
-    tie.close (tie.spec is-sample-requires number-of-requires returns int-to-float-t5 int-to-float-t6 int-to-float-t7 returns-2)
+    tie.close (tie.spec is-sample-requires refused-with-requires returns int-to-float-t5 int-to-float-t6 int-to-float-t7 returns-2)

@@ -1,12 +1,12 @@
 -- `host::answers::sample_in` meets its contract, by the length. Assumes nothing.
 use borrow.Author.Needs.{needs}
 use borrow.Author.Tests.{le-leb, lt-leb}
-use Rattle.host.specs.Doubles.{sampleIn}
+use Rattle.host.specs.Doubles.{hostSampleIn}
 use Rattle.host.proofs.answers.sample_in.Statement.{statement}
 use Rattle.host.proofs.answers.sample_in.Tie as tie
 
 returns : tie.Need-returns
-unfolding sampleIn
+unfolding hostSampleIn
 returns c = rw (lt-leb _ _ (c .if1 .taken))
 
 answer-at-requires : tie.Need-answer-at-requires
@@ -16,7 +16,7 @@ of-sample-requires : tie.Need-of-sample-requires
 of-sample-requires c κs = search needs
 
 returns-2 : tie.Need-returns-2
-unfolding sampleIn
+unfolding hostSampleIn
 returns-2 c = rw (le-leb _ _ (c .before .before .if1 .left), ← c .before .answer-at .ensures) (c .of-sample .ensures .0)
 
 pub sample-in-spec : {M : Type 1} → statement M

@@ -20,7 +20,7 @@ use Rattle.host.specs.declared.HostAnswer.{HostAnswer}
 use Rattle.host.specs.Doubles.{doubleOf, Whole, belowLimit, doublesOf, acceptedAs, refusedWith, hostSample, hostArea, hostSampleIn, hostAreaIn}
 
 pub below : (z : ℤ) → belowLimit z ≡ true → natAbs z < 2 ^ 53
-below z e = ltb-true (natAbs z) (2 ^ 53) e
+below z e = omega (arith, ltb-true (natAbs z) _ e)
 
 -- what a cast asks
 pub in-float : (z : ℤ) → belowLimit z ≡ true → T (inFloat binary64 z)

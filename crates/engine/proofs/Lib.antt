@@ -1,7 +1,3 @@
 pub mod Sizes
 pub mod Workable
-pub mod Tallies
-pub mod Samples
-pub mod Lines
-pub mod Demand3
 pub mod Bench

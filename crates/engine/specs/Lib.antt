@@ -4,6 +4,4 @@ pub mod Sample
 pub mod Integration
 pub mod Rules
 pub mod Step
-pub mod Ledger
-pub mod Claim
 pub mod Bench

@@ -20,9 +20,9 @@ use Rattle.engine.specs.Rules.{fresh}
 use Rattle.engine.specs.Step.{stepOf}
 use Rattle.session.specs.Header.{sheetCount, eventCount, wellFormed, eventsFrom}
 use Rattle.session.specs.Entries.{entryOf}
-use Rattle.session.specs.Room.{lineRoom}
 use Rattle.session.specs.Run.{recordOf, answersFrom}
-use Rattle.session.specs.Text.{decimal, signedDecimal, lineOf, linesFrom, refusedLine, linesOf, printedOf, linesStatus, linesWritten, linesOutput}
+use Rattle.text.specs.Line.{decimal, signedDecimal, lineOf, lineRoom}
+use Rattle.session.specs.Text.{linesFrom, refusedLine, linesOf, printedOf, linesStatus, linesWritten, linesOutput}
 use Rattle.session.proofs.Outcome.{shape, status-0, served}
 
 -- the lines of the answers to count events from an offset on

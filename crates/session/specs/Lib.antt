@@ -2,4 +2,3 @@ pub mod Header
 pub mod Entries
 pub mod Run
 pub mod Text
-pub mod Room

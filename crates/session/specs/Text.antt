@@ -1,35 +1,15 @@
 -- What document 01's program prints: a line for each event, in ASCII. Assumes nothing.
-use Prim.Native.Nat.{ℕ, zero, suc, _+_, _/_, _%_}
+use Prim.Native.Nat.{ℕ, _+_}
 use mathlib.Core.Bool.{Bool, _&&_, cond}
 use mathlib.Core.List.{List, [], _∷_, _++_}
-use lib.Dec.{ltb, leb, eqb}
-use lib.IntN.{ℤ, pos, negsuc}
+use lib.Dec.{leb, eqb}
+use lib.IntN.{pos}
 use lib.ListN.{length}
 use Rattle.layout.specs.declared.AnswerRecord.{AnswerRecord}
 use Rattle.layout.specs.Fields.{splice}
+use Rattle.text.specs.Line.{lineOf, lineRoom}
 use Rattle.session.specs.Header.{wellFormed}
-use Rattle.session.specs.Room.{lineRoom}
 use Rattle.session.specs.Run.{answersTo, statusFor}
-
--- n in decimal with no leading zeros, in at most k digits
-abbrev pub decimalIn : ℕ → ℕ → List ℕ
-decimalIn zero n = []
-decimalIn (suc k) n = cond (ltb n 10) ((48 + n) ∷ []) (decimalIn k (n / 10) ++ ((48 + n % 10) ∷ []))
-
--- 20 digits hold every number of 64 bits
-unfoldable pub decimal : ℕ → List ℕ
-decimal n = decimalIn 20 n
-
--- a signed number, with a minus sign below 0
-unfoldable pub signedDecimal : ℤ → List ℕ
-signedDecimal (pos n) = decimal n
-signedDecimal (negsuc n) = 45 ∷ decimal (suc n)
-
--- ordinal, kind, refusal, m, x, y, single spaces, and a line feed
-unfoldable pub lineOf : ℕ → AnswerRecord → List ℕ
-lineOf ordinal a =
-    decimal ordinal ++ (32 ∷ decimal (a .kind)) ++ (32 ∷ decimal (a .refusal)) ++ (32 ∷ decimal (a .m))
-    ++ (32 ∷ signedDecimal (a .x)) ++ (32 ∷ signedDecimal (a .y)) ++ (10 ∷ [])
 
 abbrev pub linesFrom : ℕ → List AnswerRecord → List ℕ
 linesFrom ordinal [] = []

@@ -4,4 +4,3 @@ pub mod header;
 pub mod print;
 pub mod reader;
 pub mod run;
-pub mod text;

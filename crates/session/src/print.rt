@@ -6,8 +6,8 @@ ghost use Rattle.layout.specs.Fields.{splice};
 ghost use Rattle.engine.specs.Rules.{fresh};
 ghost use Rattle.session.specs.Header.{eventsFrom};
 ghost use Rattle.session.specs.Run.{answersFrom};
-ghost use Rattle.session.specs.Room.{lineRoom};
-ghost use Rattle.session.specs.Text.{linesFrom, printedOf, linesStatus, linesWritten, linesOutput};
+ghost use Rattle.text.specs.Line.{lineRoom};
+ghost use Rattle.session.specs.Text.{linesFrom, refusedLine, printedOf, linesStatus, linesWritten, linesOutput};
 use crate::entries::entry_of;
 use crate::header::event_count;
 use crate::header::sheet_count;
@@ -15,10 +15,10 @@ use crate::reader::event_from;
 use crate::run::Ran;
 use crate::run::record_of;
 use crate::run::status_for;
-use crate::text::put_line;
-use crate::text::put_refused;
 use engine::fresh_state;
 use engine::step;
+use layout::AnswerRecord;
+use text::put_line;
 
 // Puts what the program prints for a file at the start of out, which has room for the longest line of each of 2,700 events, and
 // answers how long it is. A refused file has one line.
@@ -69,4 +69,19 @@ fn print_all(sheets: &[u8], file: &[u8], from: usize, events: usize, out: &mut [
         i += 1;
     }
     at
+}
+
+// Puts the line of a refused file at the start.
+fn put_refused(out: &mut [u8]) -> usize
+    requires { ⌜ lineRoom ≤ length (now out) ⌝ }
+    ensures { λ r. ⌜ (r ≡ length refusedLine) × (now (out .exit) ≡ splice (now (out .entry)) 0 refusedLine) ⌝ }
+{
+    let refused = AnswerRecord {
+        kind: 0,
+        refusal: 12,
+        m: 0,
+        x: 0,
+        y: 0,
+    };
+    put_line(out, 0, 0, refused)
 }

@@ -1,0 +1,4 @@
+pub mod Tallies
+pub mod Samples
+pub mod Lines
+pub mod Demand3

@@ -1,0 +1,139 @@
+-- Demand 3: what holds at each event of every list, refused ones included, from a fresh engine, with the exact ledger going
+-- through the same list. Assumes nothing.
+use mathlib.Core.Bool.{true}
+use Prim.Native.Nat.{ℕ, suc, _≤_}
+use mathlib.Core.List.{List, [], _∷_}
+use mathlib.Core.Path.{_≡_}
+use lib.IntN.{ℤ, pos, _+ℤ_, _-ℤ_}
+use lib.ListN.{length}
+use Rattle.curve.specs.declared.Sheet.{Sheet}
+use Rattle.exact.specs.Fraction.{Fraction, whole, LiesWithin, AtLeast, LessThan}
+use Rattle.exact.specs.Equation.{exactWet, exactDry}
+use Rattle.exact.specs.Area.{exactArea}
+use Rattle.exact.specs.Bounds.{absoluteBound, againstBound, dryBound, referenceBound, areaBound}
+use Rattle.engine.specs.declared.Loaded.{Loaded}
+use Rattle.engine.specs.declared.Cylinder.{Cylinder}
+use Rattle.engine.specs.declared.Mode.{Mode}
+use Rattle.engine.specs.declared.State.{State}
+use Rattle.engine.specs.declared.Measurement.{Measurement}
+use Rattle.engine.specs.declared.Event.{Event}
+use Rattle.engine.specs.declared.Entry.{Entry}
+use Rattle.engine.specs.declared.Answer.{Answer}
+use Rattle.engine.specs.declared.Stepped.{Stepped}
+use Rattle.engine.specs.Answer.{refusalOf, mOf, xOf, yOf}
+use Rattle.engine.specs.Sample.{airOf, referenceAir}
+use Rattle.engine.specs.Rules.{rules, fresh, answered}
+use Rattle.engine.specs.Step.{workable, stepOf}
+use Rattle.ledger.specs.Ledger.{Ledger, freshLedger, exactValue, ledgerStep}
+
+-- ---- the transcript of a list: at each event the state before, the entry, the answer and the state after
+
+pub record Line : Type 0 where
+  pub before : State
+  pub entry : Entry
+  pub answer : Answer
+  pub after : State
+
+-- each event gets the state that the last one left
+abbrev pub transcript : List ℕ → State → List Entry → List Line
+transcript sheets st [] = []
+transcript sheets st (entry ∷ entries) =
+    record { before = st; entry = entry; answer = stepOf sheets st entry .answer; after = stepOf sheets st entry .state }
+    ∷ transcript sheets (stepOf sheets st entry .state) entries
+
+-- the state that a list leaves
+abbrev pub leaves : List ℕ → State → List Entry → State
+leaves sheets st [] = st
+leaves sheets st (entry ∷ entries) = leaves sheets (stepOf sheets st entry .state) entries
+
+-- ---- what holds of an answer
+
+-- a refused answer has a number of the list, 1 to 11, and its fields are zero
+abbrev pub RefusalHolds : Answer → Type 0
+RefusalHolds (Answer.Refused number) =
+    (1 ≤ number) × (number ≤ 11) × (mOf (Answer.Refused number) ≡ 0) × (xOf (Answer.Refused number) ≡ pos 0) × (yOf (Answer.Refused number) ≡ pos 0)
+RefusalHolds Answer.Done = Unit
+RefusalHolds (Answer.Zeroed q) = Unit
+RefusalHolds (Answer.Spanned s) = Unit
+RefusalHolds (Answer.Reading r wet dry) = Unit
+RefusalHolds (Answer.Area n area) = Unit
+
+-- the bound of a wet value by the mode
+abbrev pub wetBound : Mode → ℕ
+wetBound Mode.Absolute = absoluteBound
+wetBound (Mode.Against gas) = againstBound
+
+-- equation (11) at the reference signal R that the answer reports, with the cylinder's vapour pressure and the sample's P and
+-- T, is at least the cylinder less 450; one unit lower, if R isn't zero, it is less than the cylinder plus 450
+pub record AtSignal (s : Sheet) (gas : Cylinder) (at : Measurement) (r : ℕ) : Type 0 where
+  pub here : AtLeast (exactWet s (whole (pos r)) (referenceAir (airOf at) gas)) (pos (gas .c) -ℤ pos referenceBound)
+  pub lower : (v : ℕ) → r ≡ suc v → LessThan (exactWet s (whole (pos v)) (referenceAir (airOf at) gas)) (pos (gas .c) +ℤ pos referenceBound)
+
+abbrev pub SignalHolds : Loaded → Mode → Measurement → ℕ → Type 0
+SignalHolds Loaded.Nothing mode at r = ⊥
+SignalHolds (Loaded.One s) Mode.Absolute at r = r ≡ 0
+SignalHolds (Loaded.One s) (Mode.Against gas) at r = AtSignal s gas at r
+
+-- an accepted sample: its wet value beside the ledger's exact value, its dry value beside that times P / (P − e), and its R
+pub record SampleHolds (g : Ledger) (at : Measurement) (r : ℕ) (wet dry : ℤ) : Type 0 where
+  pub wet-holds : LiesWithin wet (wetBound (g .mode)) (exactValue g at r)
+  pub dry-holds : LiesWithin dry dryBound (exactDry (exactValue g at r) (airOf at))
+  pub signal-holds : SignalHolds (g .sheet) (g .mode) at r
+
+-- an accepted area: the ledger's n, and beside the ledger's area
+pub record AreaHolds (g : Ledger) (n : ℕ) (area : ℤ) : Type 0 where
+  pub count : n ≡ length (g .series)
+  pub distance : LiesWithin area (areaBound n) (exactArea (g .series))
+
+-- by the entry and its answer, the ledger being the one before the event: a sample is answered by a reading or refused, an area
+-- by an area or refused
+abbrev pub SampleAnswered : Ledger → Measurement → Answer → Type 0
+SampleAnswered g at (Answer.Reading r wet dry) = SampleHolds g at r wet dry
+SampleAnswered g at (Answer.Refused number) = Unit
+SampleAnswered g at Answer.Done = ⊥
+SampleAnswered g at (Answer.Zeroed q) = ⊥
+SampleAnswered g at (Answer.Spanned s) = ⊥
+SampleAnswered g at (Answer.Area n area) = ⊥
+
+abbrev pub AreaAnswered : Ledger → Answer → Type 0
+AreaAnswered g (Answer.Area n area) = AreaHolds g n area
+AreaAnswered g (Answer.Refused number) = Unit
+AreaAnswered g Answer.Done = ⊥
+AreaAnswered g (Answer.Zeroed q) = ⊥
+AreaAnswered g (Answer.Spanned s) = ⊥
+AreaAnswered g (Answer.Reading r wet dry) = ⊥
+
+-- the ledger has exact values to compare with samples and areas alone; a malformed entry is refused with 11
+abbrev pub LedgerHolds : Ledger → Entry → Answer → Type 0
+LedgerHolds g (Entry.Known (Event.Sample at)) a = SampleAnswered g at a
+LedgerHolds g (Entry.Known Event.Area) a = AreaAnswered g a
+LedgerHolds g (Entry.Known (Event.Load index)) a = Unit
+LedgerHolds g (Entry.Known (Event.Zero raw)) a = Unit
+LedgerHolds g (Entry.Known (Event.Span at cylinder)) a = Unit
+LedgerHolds g (Entry.Known (Event.Reference cylinder e)) a = Unit
+LedgerHolds g (Entry.Known Event.Absolute) a = Unit
+LedgerHolds g (Entry.Known Event.Start) a = Unit
+LedgerHolds g (Entry.Known Event.Stop) a = Unit
+LedgerHolds g (Entry.Malformed kind) a = refusalOf a ≡ 11
+
+-- demands 1 and 2 at the event: answer and state after are the rules' at the state before; and the ledger's facts
+pub record LineHolds (sheets : List ℕ) (g : Ledger) (l : Line) : Type 0 where
+  pub by-rules : answered (l .answer) (l .after) ≡ rules sheets (l .before) (l .entry)
+  pub refusal : RefusalHolds (l .answer)
+  pub by-ledger : LedgerHolds g (l .entry) (l .answer)
+
+-- ---- the claim: at each event of the list, which gets the state that the last one left, the ledger moving on beside it
+abbrev pub Holds : List ℕ → State → Ledger → List Line → Type 0
+Holds sheets st g [] = Unit
+Holds sheets st g (l ∷ ls) =
+    (l .before ≡ st) × LineHolds sheets g l × Holds sheets (l .after) (ledgerStep sheets g (l .entry) (l .answer)) ls
+
+-- demand 3, for one list of sheets and one list of events, from a fresh engine
+abbrev pub Demand3 : List ℕ → List Entry → Type 0
+Demand3 sheets entries = Holds sheets fresh freshLedger (transcript sheets fresh entries)
+
+-- the state that a list leaves: its numbers keep to the limits within which every sum fits, and the code's step goes by the
+-- rules there, whatever comes next
+pub record Reachable (sheets : List ℕ) (entries : List Entry) : Type 0 where
+  pub within : workable (leaves sheets fresh entries) ≡ true
+  pub by-rules : (entry : Entry) → stepOf sheets (leaves sheets fresh entries) entry ≡ rules sheets (leaves sheets fresh entries) entry

@@ -1,0 +1,149 @@
+-- `text::put_line` meets its contract: seven pieces, one after the other, whose bounds leave each its room. Assumes nothing.
+use Prim.Native.Nat.{_+_, _≤_}
+use native.Mathlib.Omega.{arith}
+use mathlib.Core.List.{[], _∷_}
+use mathlib.Core.Path.{_≡_}
+use lib.ListN.{length, length-append}
+use mir.Syntax.{w64}
+use mir.Val.{toZ, ofZ}
+use borrow.Author.Needs.{needs}
+use Rattle.text.specs.Line.{lineRoom}
+use Rattle.text.specs.Line.{decimal, signedDecimal, lineOf}
+use Rattle.text.proofs.Digits.{line-fits}
+use Rattle.text.proofs.Pieces.{seven}
+use Rattle.text.proofs.put_line.Statement.{statement}
+use Rattle.text.proofs.put_line.Tie as tie
+use Rattle.text.proofs.put_line.Reads as self
+use Rattle.text.proofs.put_line.Lts as lts
+use Rattle.text.proofs.put_byte.Reads as put-byte
+use Rattle.text.proofs.put_decimal.Reads as put-decimal
+use Rattle.text.proofs.put_spaced.Reads as put-spaced
+use Rattle.text.proofs.put_spaced_signed.Reads as put-spaced-signed
+
+abbrev claims : lts.Claims
+claims = (
+  put-decimal.Asked,
+  put-decimal.Learnt,
+  put-spaced.Asked,
+  put-spaced.Learnt,
+  put-spaced-signed.Asked,
+  put-spaced-signed.Learnt,
+  put-byte.Asked,
+  put-byte.Learnt,
+)
+
+abbrev Entry : Type 0
+Entry = lts.Start claims self.Pre self.Post
+
+-- the entry, from the calls that put ordinal, kind, refusal, m, x and y
+abbrev of-ordinal : lts.After-put-decimal claims self.Pre self.Post → Entry
+of-ordinal c = c .before .before .before
+
+abbrev of-kind : lts.After-put-spaced claims self.Pre self.Post → Entry
+of-kind c = of-ordinal (c .before .before .before .before .before)
+
+abbrev of-refusal : lts.After-put-spaced2 claims self.Pre self.Post → Entry
+of-refusal c = of-kind (c .before .before .before .before .before)
+
+abbrev of-m : lts.After-put-spaced3 claims self.Pre self.Post → Entry
+of-m c = of-refusal (c .before .before .before .before .before)
+
+abbrev of-x : lts.After-put-spaced-signed claims self.Pre self.Post → Entry
+of-x c = of-m (c .before .before .before .before .before)
+
+abbrev of-y : lts.After-put-spaced-signed2 claims self.Pre self.Post → Entry
+of-y c = of-x (c .before .before .before .before .before)
+
+-- x and y, which are of 64 bits
+kept-x : (s : Entry) → toZ w64 (ofZ w64 (s .args .a .x)) ≡ s .args .a .x
+kept-x s = search needs
+
+kept-y : (s : Entry) → toZ w64 (ofZ w64 (s .args .a .y)) ≡ s .args .a .y
+kept-y s = search needs
+
+-- the line's length, its room, and as a sum
+fits : (s : Entry) → length (lineOf (s .args .ordinal) (s .args .a)) ≤ lineRoom
+fits s = line-fits (s .args .ordinal) (s .args .a) (search needs) (search needs) (search needs) (search needs) (search needs) (search needs)
+
+room : (s : Entry) → s .args .at + length (lineOf (s .args .ordinal) (s .args .a)) ≤ length (s .args .out .now)
+room s = omega (arith, fits s)
+
+sum : (s : Entry) → let a = s .args .a in s .args .at + (length (decimal (s .args .ordinal)) + length (decimal (a .kind)) + length (decimal (a .refusal))
+    + length (decimal (a .m)) + length (signedDecimal (toZ w64 (ofZ w64 (a .x)))) + length (signedDecimal (toZ w64 (ofZ w64 (a .y)))) + 6)
+    ≤ length (s .args .out .now)
+unfolding lineOf
+sum s = rw (kept-x s, kept-y s) (let h = simp length-append at (room s) in omega arith)
+
+-- where x goes
+half : (c : lts.After-put-spaced3 claims self.Pre self.Post) → let s = of-m c in let a = s .args .a in
+    (c .put-spaced3 .result ≡ s .args .at + (length (decimal (s .args .ordinal)) + length (decimal (a .kind)) + length (decimal (a .refusal))
+    + length (decimal (a .m)) + 3)) × (length (c .put-spaced3 .last .0) ≡ length (s .args .out .now))
+half c = (omega arith, omega arith)
+
+put-decimal-requires : tie.Need-put-decimal-requires
+put-decimal-requires c κs = omega (arith, sum (c .before .before))
+
+cast-put-spaced : tie.Need-cast-put-spaced
+cast-put-spaced c = search needs
+
+put-spaced-requires : tie.Need-put-spaced-requires
+put-spaced-requires c κs = omega (arith, sum (of-ordinal (c .before .before .before .before)))
+
+cast-put-spaced-2 : tie.Need-cast-put-spaced-2
+cast-put-spaced-2 c = search needs
+
+put-spaced-requires-2 : tie.Need-put-spaced-requires-2
+put-spaced-requires-2 c κs = omega (arith, sum (of-kind (c .before .before .before .before)))
+
+cast-put-spaced-3 : tie.Need-cast-put-spaced-3
+cast-put-spaced-3 c = search needs
+
+put-spaced-requires-3 : tie.Need-put-spaced-requires-3
+put-spaced-requires-3 c κs = omega (arith, sum (of-refusal (c .before .before .before .before)))
+
+put-spaced-signed-requires : tie.Need-put-spaced-signed-requires
+put-spaced-signed-requires c κs = omega (arith, sum (of-m (c .before .before .before .before)))
+
+put-spaced-signed-requires-2 : tie.Need-put-spaced-signed-requires-2
+put-spaced-signed-requires-2 c κs = omega (arith, sum (of-x (c .before .before .before .before)), half (c .before .before .before .before .before .before .before .before .before))
+
+put-byte-requires : tie.Need-put-byte-requires
+put-byte-requires c κs = omega (arith, sum (of-y (c .before .before .before)), half (c .before .before .before .before .before .before .before .before .before .before .before .before .before))
+
+same-length : tie.Need-same-length
+same-length c = omega (arith, half (c .before .before .before .before .before .before .before .before .before .before .before .before .before .before .before .before))
+
+returns : tie.Need-returns
+unfolding lineOf
+returns c =
+    let y = c .before .before .before .before .before .before in
+    let x = y .before .before .before .before .before in
+    let m = x .before .before .before .before .before in
+    let refusal = m .before .before .before .before .before in
+    let kind = refusal .before .before .before .before .before in
+    let ordinal = kind .before .before .before .before .before in
+    let s = of-ordinal ordinal in
+    let a = s .args .a in
+    let p =
+    seven (s .args .out .now) (decimal (s .args .ordinal)) (32 ∷ decimal (a .kind)) (32 ∷ decimal (a .refusal)) (32 ∷ decimal (a .m))
+    (32 ∷ signedDecimal (a .x)) (32 ∷ signedDecimal (a .y)) (10 ∷ []) (s .args .at) (ordinal .put-decimal .ensures)
+    (kind .put-spaced .ensures) (refusal .put-spaced2 .ensures) (m .put-spaced3 .ensures) (rw (kept-x s) at (x .put-spaced-signed .ensures))
+    (rw (kept-y s) at (y .put-spaced-signed2 .ensures)) (c .before .before .put-byte .ensures) (room s) in
+    (p .0, p .1, fits s)
+
+pub put-line-spec : {M : Type 1} → statement M
+put-line-spec =
+    tie.close
+    (tie.spec
+    put-decimal-requires
+    cast-put-spaced
+    put-spaced-requires
+    cast-put-spaced-2
+    put-spaced-requires-2
+    cast-put-spaced-3
+    put-spaced-requires-3
+    put-spaced-signed-requires
+    put-spaced-signed-requires-2
+    put-byte-requires
+    same-length
+    returns)

@@ -38,7 +38,7 @@ use Rattle.engine.specs.Answer.{refusalOf, kindOf}
 use Rattle.engine.specs.Sheets.{asSheet, recordWithin, sheetsHeld, lookupOf}
 use Rattle.engine.specs.Sample.{airOf, inputWithin, sampledOf}
 use Rattle.engine.specs.Integration.{countedOf, closedOf, areaAnswer}
-use Rattle.engine.specs.Rules.{answered, refused, withIntegration, needingSheet, loadBy, zeroRule, spanBy, spanIn, spanRule, referenceRule, absoluteRule, sampleBy, startRule, stopIn, stopRule, areaIn, areaRule, rules}
+use Rattle.engine.specs.Rules.{answered, refused, withIntegration, idleWith, needingSheet, loadBy, zeroRule, spanBy, spanIn, spanRule, referenceRule, absoluteRule, sampleBy, startRule, stopIn, stopRule, areaIn, areaRule, rules}
 use Rattle.engine.specs.Step.{loadedWithin, modeWithin, workable}
 use Rattle.ledger.specs.Ledger.{Ledger, settled, withSeries, taken, exactValue, ledgerStep}
 use Rattle.ledger.specs.Claim.{RefusalHolds, LedgerHolds}
@@ -75,10 +75,6 @@ pub record Good (sheets : List ℕ) (g : Ledger) (entry : Entry) (r : Stepped) :
   pub refusal : RefusalHolds (r .answer)
   pub ledger : LedgerHolds g entry (r .answer)
   pub next : Together (r .state) (ledgerStep sheets g entry (r .answer))
-
--- an idle state
-abbrev idleWith : Loaded → ℤ → ℕ → Mode → State
-idleWith l q s m = record { loaded = l; q = q; s = s; mode = m; integration = Integration.Idle }
 
 -- a record that passes has a sheet within its limits
 record-sheet : (r : SheetRecord) → recordWithin r ≡ true → sheetWithin (asSheet r) ≡ true

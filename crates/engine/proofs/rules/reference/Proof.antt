@@ -1,5 +1,8 @@
 -- `reference` meets its contract: the checks in their order. Assumes nothing.
 use borrow.Author.Tests.{le-leb, lt-leb}
+use mir.Facts.{toZ-ofZ}
+use mir.Syntax.{w64}
+use mir.Val.{SFits}
 use borrow.Author.Needs.{needs}
 use Rattle.engine.proofs.rules.reference.Statement.{statement}
 use Rattle.engine.proofs.rules.reference.Tie as tie
@@ -28,8 +31,14 @@ refuse-requires-3 c κs = search needs
 returns-3 : tie.Need-returns-3
 returns-3 c = rw (c .refuse3 .ensures, c .before .before .before .enum-told .given .1, le-leb _ _ (c .before .before .if1 .left), lt-leb _ _ (c .before .if2 .taken))
 
+settled-requires : tie.Need-settled-requires
+settled-requires c κs = search needs
+
 returns-4 : tie.Need-returns-4
-returns-4 c = rw (c .before .before .before .enum-told .given .1, le-leb _ _ (c .before .before .if1 .left), le-leb _ _ (c .before .if2 .left)) (search needs)
+returns-4 c =
+    let b = c .before .before in
+    let f : SFits w64 (b .before .before .before .before .args .st .q) = search needs in
+    rw (simp toZ-ofZ at (c .settled .ensures), b .before .before .enum-told .given .1, le-leb _ _ (b .before .if1 .left), le-leb _ _ (b .if2 .left))
 
 pub reference-spec : {M : Type 1} → statement M
 reference-spec =
@@ -43,4 +52,5 @@ reference-spec =
     returns-2
     refuse-requires-3
     returns-3
+    settled-requires
     returns-4)

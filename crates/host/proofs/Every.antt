@@ -6,7 +6,7 @@ use mathlib.Core.Path.{_≡_}
 use borrow.Author.Tests.{lt-ltb, eq-eqb}
 use lib.IntN.{pos, natAbs}
 use Rattle.layout.specs.declared.AnswerRecord.{AnswerRecord}
-use Rattle.session.specs.Entries.{entryOf}
+use Rattle.format.specs.Entries.{entryOf}
 use Rattle.session.proofs.Fits.{fits}
 use Rattle.host.specs.declared.HostAnswer.{HostAnswer}
 use Rattle.host.specs.Doubles.{doubleOf, doublesOf, hostSample, hostArea}

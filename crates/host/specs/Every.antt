@@ -7,7 +7,7 @@ use Rattle.layout.specs.declared.EventRecord.{EventRecord}
 use Rattle.layout.specs.declared.AnswerRecord.{AnswerRecord}
 use Rattle.engine.specs.declared.State.{State}
 use Rattle.engine.specs.Step.{stepOf}
-use Rattle.session.specs.Entries.{entryOf}
+use Rattle.format.specs.Entries.{entryOf}
 use Rattle.session.specs.Run.{recordOf}
 use Rattle.host.specs.declared.HostAnswer.{HostAnswer}
 use Rattle.host.specs.Doubles.{doubleOf, doublesOf, hostSample, hostArea, Exactly}

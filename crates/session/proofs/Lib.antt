@@ -1,4 +1,3 @@
-pub mod Zero
 pub mod Fits
 pub mod Turn
 pub mod Outcome

@@ -18,12 +18,13 @@ use Rattle.engine.specs.declared.State.{State}
 use Rattle.engine.specs.declared.Stepped.{Stepped}
 use Rattle.engine.specs.Rules.{fresh}
 use Rattle.engine.specs.Step.{stepOf}
-use Rattle.session.specs.Header.{sheetCount, eventCount, wellFormed, eventsFrom}
-use Rattle.session.specs.Entries.{entryOf}
+use Rattle.format.specs.Header.{sheetCount, eventCount, wellFormed, eventsFrom}
+use Rattle.format.specs.Entries.{entryOf}
 use Rattle.session.specs.Run.{recordOf, answersFrom}
 use Rattle.text.specs.Line.{decimal, signedDecimal, lineOf, lineRoom}
 use Rattle.session.specs.Text.{linesFrom, refusedLine, linesOf, printedOf, linesStatus, linesWritten, linesOutput}
-use Rattle.session.proofs.Outcome.{shape, status-0, served}
+use Rattle.format.proofs.Shape.{shape}
+use Rattle.session.proofs.Outcome.{status-0, served}
 
 -- the lines of the answers to count events from an offset on
 abbrev pub textFrom : List ℕ → State → List ℕ → ℕ → ℕ → ℕ → List ℕ

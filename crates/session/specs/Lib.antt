@@ -1,4 +1,2 @@
-pub mod Header
-pub mod Entries
 pub mod Run
 pub mod Text

@@ -12,8 +12,8 @@ use Rattle.engine.specs.declared.Answer.{Answer}
 use Rattle.engine.specs.Answer.{refusalOf, mOf, xOf, yOf}
 use Rattle.engine.specs.Rules.{fresh}
 use Rattle.engine.specs.Step.{stepOf}
-use Rattle.session.specs.Header.{wellFormed, eventCount, sheetsOf, eventsOf}
-use Rattle.session.specs.Entries.{entryOf}
+use Rattle.format.specs.Header.{wellFormed, eventCount, sheetsOf, eventsOf}
+use Rattle.format.specs.Entries.{entryOf}
 
 -- an answer with the kind byte as given
 abbrev pub recordOf : ℕ → Answer → AnswerRecord

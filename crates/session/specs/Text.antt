@@ -8,7 +8,7 @@ use lib.ListN.{length}
 use Rattle.layout.specs.declared.AnswerRecord.{AnswerRecord}
 use Rattle.layout.specs.Fields.{splice}
 use Rattle.text.specs.Line.{lineOf, lineRoom}
-use Rattle.session.specs.Header.{wellFormed}
+use Rattle.format.specs.Header.{wellFormed}
 use Rattle.session.specs.Run.{answersTo, statusFor}
 
 abbrev pub linesFrom : ℕ → List AnswerRecord → List ℕ

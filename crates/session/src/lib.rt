@@ -1,6 +1,3 @@
-// Document 01's session file: its header, its events as entries, a reader over it, the run that answers them, and its lines.
-pub mod entries;
-pub mod header;
+// A session file run: its events answered in turn, as records and as lines.
 pub mod print;
-pub mod reader;
 pub mod run;

@@ -1,0 +1,49 @@
+// The header of a session file: four u32, and what they must be.
+ghost use mathlib.Core.Path.{_≡_};
+ghost use Prim.Native.Nat.{_≤_};
+ghost use lib.ListN.{length};
+ghost use Rattle.format.specs.Header.{sheetCount, eventCount, wellFormed};
+use layout::fields::u32_at;
+
+// How many sheets the header says.
+pub fn sheet_count(file: &[u8]) -> usize
+    requires { ⌜ 16 ≤ length (now file) ⌝ }
+    ensures { λ r. ⌜ r ≡ sheetCount (now (file .entry)) ⌝ }
+{
+    u32_at(file, 0) as usize
+}
+
+// How many events the header says.
+pub fn event_count(file: &[u8]) -> usize
+    requires { ⌜ 16 ≤ length (now file) ⌝ }
+    ensures { λ r. ⌜ r ≡ eventCount (now (file .entry)) ⌝ }
+{
+    u32_at(file, 8) as usize
+}
+
+// The counts are within their limits, the offsets are what they must be, and the file ends with its last event.
+pub fn well_formed(file: &[u8]) -> bool
+    ensures { λ r. ⌜ r ≡ wellFormed (now (file .entry)) ⌝ }
+{
+    // There is a header to read.
+    if file.len() < 16 {
+        return false;
+    }
+    let sheets = sheet_count(file);
+    let events = event_count(file);
+    // The counts first, so that the sums below stay small.
+    if 16 < sheets {
+        return false;
+    }
+    if u32_at(file, 4) != 16 {
+        return false;
+    }
+    if 2700 < events {
+        return false;
+    }
+    let from = 16 + 24 * sheets;
+    if u32_at(file, 12) as usize != from {
+        return false;
+    }
+    file.len() == from + 24 * events
+}

@@ -11,7 +11,7 @@ fn blocks() -> Vec<&'static str> {
     NAMED.split("\n\n").filter(|block| block.starts_with('[')).collect()
 }
 
-/// The bounds that the must-fail edits of `crates/exact` and `crates/engine` try, in
+/// The bounds that the must-fail edits of `crates/exact` and `crates/ledger` try, in
 /// pmol/mol. Each is below the error of the reading that the edit names: a bound that
 /// no reading broke would be refused for want of a proof and not because it is false.
 fn tried(kind: Kind) -> i128 {

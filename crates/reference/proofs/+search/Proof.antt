@@ -78,9 +78,9 @@ module _ (t : ℕ) where
   returns-2 c =
       let s = c .before .before .before .before in
       let p = s .pre .1 in
-      c .search .ensures ∙ lower-half (test s) (s .args .low) (middle s) (s .args .high) (omega arith) (omega arith)
+      rw (c .search .ensures) (lower-half (test s) (s .args .low) (middle s) (s .args .high) (omega arith) (omega arith)
       (none-above (soughtReading (s .args .s) (s .args .a) (s .args .sought)) (sought-rises (s .args .s) (s .args .a) (p .0) (p .1) (s .args .sought) (s .args .high - 1) (p .3)) (s .args .cylinder) (middle s)
-      (sought-over (s .args .s) (s .args .a) (s .args .sought) (s .args .high - 1) (p .3) (middle s) (c .before .before .reading-at .ensures) (c .before .match .keys2)))
+      (sought-over (s .args .s) (s .args .a) (s .args .sought) (s .args .high - 1) (p .3) (middle s) (c .before .before .reading-at .ensures) (c .before .match .keys2))))
 
   at-least-requires : lts.Need-at-least-requires (claims t) (here t) self.Post
   at-least-requires c κs = search needs
@@ -111,8 +111,8 @@ module _ (t : ℕ) where
       let d = c .before .before in
       let s = entry d in
       let p = s .pre .1 in
-      c .search2 .ensures ∙ upper-half (test s) (s .args .low) (middle s) (s .args .high) (omega arith) (omega arith)
-      (none-below (soughtReading (s .args .s) (s .args .a) (s .args .sought)) (sought-rises (s .args .s) (s .args .a) (p .0) (p .1) (s .args .sought) (s .args .high - 1) (p .3)) (s .args .cylinder) (middle s) (value d) (compared d ∙ not-true _ (c .before .if2 .taken)))
+      rw (c .search2 .ensures) (upper-half (test s) (s .args .low) (middle s) (s .args .high) (omega arith) (omega arith)
+      (none-below (soughtReading (s .args .s) (s .args .a) (s .args .sought)) (sought-rises (s .args .s) (s .args .a) (p .0) (p .1) (s .args .sought) (s .args .high - 1) (p .3)) (s .args .cylinder) (middle s) (value d) (compared d ∙ not-true _ (c .before .if2 .taken))))
 
   search-requires-3 : lts.Need-search-requires-3 (claims t) (here t) self.Post
   search-requires-3 c κs = let s = c .before .before .before .before .before .before .before in (omega arith, (s .pre .1 .0, s .pre .1 .1, s .pre .1 .2, sought-less (s .args .sought) (s .args .high - 1) (middle s - 1) (s .pre .1 .3) (omega arith), omega arith))
@@ -127,13 +127,13 @@ module _ (t : ℕ) where
   returns-4 c =
       let d = c .before .before .before .before in
       let s = entry d in
-      found-here (test s) (s .args .low) (middle s) (s .args .high) (omega arith) (omega arith) (sym (c .before .before .search3 .ensures) ∙ c .enum-told .given .1)
+      found-here (test s) (s .args .low) (middle s) (s .args .high) (omega arith) (omega arith) (rw (c .before .before .search3 .ensures) at (c .enum-told .given .1))
       (ap (serves (s .args .cylinder)) (value d) ∙ compared d ∙ not-false _ (c .before .before .before .if2 .left))
 
   returns-5 : lts.Need-returns-5 (claims t) (here t) self.Post
   returns-5 c =
       let s = entry (c .before .before .before .before .before) in
-      found-below (test s) (s .args .low) (middle s) (s .args .high) (omega arith) (omega arith) (sym (c .before .before .before .search3 .ensures) ∙ c .before .n .given .1)
+      found-below (test s) (s .args .low) (middle s) (s .args .high) (omega arith) (omega arith) (rw (c .before .before .before .search3 .ensures) at (c .before .n .given .1))
 
 pub +search-spec : {M : Type 1} → statement M
 +search-spec =

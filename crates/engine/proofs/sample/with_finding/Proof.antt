@@ -1,5 +1,5 @@
 -- `with_finding` meets its contract: what was found is within the signals' range. Assumes nothing.
-use mathlib.Core.Path.{sym, _∙_, ap, subst}
+use mathlib.Core.Path.{subst}
 use Prim.Native.Nat.{_≤_}
 use native.Mathlib.Omega.{arith}
 use mir.Facts.{toZ-ofZ}
@@ -7,7 +7,6 @@ use mir.Syntax.{w64}
 use mir.Val.{SFits}
 use Rattle.reference.specs.declared.Found.{Found}
 use Rattle.reference.specs.Search.{foundValue}
-use Rattle.engine.specs.Sample.{withFinding}
 use borrow.Author.Needs.{needs}
 use Rattle.engine.proofs.sample.with_finding.Statement.{statement}
 use Rattle.engine.proofs.sample.with_finding.Tie as tie
@@ -36,8 +35,7 @@ returns-2 c =
     let s = c .before .before .before .before .before in
     let f = s .fits .v in
     let g : SFits w64 (c .before .against .result) = search needs in
-    (rw (simp toZ-ofZ at (c .before .against .ensures)) at (simp toZ-ofZ at (c .values .ensures)))
-    ∙ sym (ap (λ (x : Found). withFinding (s .args .s) (s .args .v) (s .args .a) x) (c .before .before .before .finding .given .1))
+    rw (c .before .before .before .finding .given .1) (rw (simp toZ-ofZ at (c .before .against .ensures)) at (simp toZ-ofZ at (c .values .ensures)))
 
 pub with-finding-spec : {M : Type 1} → statement M
 with-finding-spec =

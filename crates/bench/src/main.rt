@@ -4,7 +4,6 @@
 // the table the first two figures are source document 000's Table 3-1, typed from it below (mV, and ppm as pmol/mol). The
 // third is ours and the fourth its difference from the document's; both were computed by the independent implementation in
 // tests/, which works from document 01 alone. Half of the document's last digit is 50,000: no row differs by more.
-ghost use mathlib.Core.Path.{_≡_};
 ghost use Prim.Native.Nat.{_<_, _≤_};
 ghost use lib.IntN.{natAbs};
 use curve::Air;

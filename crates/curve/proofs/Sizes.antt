@@ -1,15 +1,15 @@
 -- How large each rounded step can be, so that every product fits a word. Assumes nothing.
 use Prim.Native.Nat.{ℕ, _+_, _*_, _≤_, _<_}
-use native.Mathlib.Nat.{mul-le-mul-left, mul-le-mul-right}
+use native.Mathlib.Nat.{mul-le-mul-right}
 use native.Mathlib.Omega.{arith}
-use lib.IntN.{ℤ, pos, natAbs, _+ℤ_, _*ℤ_}
+use lib.IntN.{ℤ, pos, natAbs, _*ℤ_}
 use Rattle.rounding.specs.Near.{nearest}
 use Rattle.rounding.proofs.Integers.{abs-add, abs-mul, prod}
 use Rattle.rounding.proofs.Nearest.{near-size}
 use Rattle.curve.specs.declared.Sheet.{Sheet}
 use Rattle.curve.specs.declared.Air.{Air}
 use Rattle.curve.specs.Limits.{SheetOk, AirOk}
-use Rattle.curve.specs.Curve.{broadeningOf, reducedOf, slope2Of, slope1Of, cubicOf, moistOf}
+use Rattle.curve.specs.Curve.{broadeningOf, slope2Of, slope1Of, cubicOf, moistOf}
 
 -- a product over d is at most m, from bounds of its factors
 ratio-size : (A B m : ℕ) (x y : ℤ) {d : ℕ} → 0 < d → natAbs x ≤ A → natAbs y ≤ B → A * B ≤ m * d → natAbs (nearest (x *ℤ y) d) ≤ m

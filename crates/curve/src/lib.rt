@@ -1,7 +1,5 @@
 // Document 01, "Curve and absolute reading": from a signal to its wet and dry value.
 ghost use mathlib.Core.Path.{_≡_};
-ghost use lib.IntN.{natAbs};
-ghost use Prim.Native.Nat.{_≤_};
 ghost use Rattle.curve.specs.Limits.{SheetOk, AirOk};
 ghost use Rattle.curve.specs.Absolute.{absoluteOf};
 use crate::steps::reduced;

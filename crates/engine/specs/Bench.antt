@@ -1,6 +1,6 @@
 -- The starred cases of document 01, "Readings on the bench", as one fact about the rules: those of the crates below, and the ones
 -- that belong to the engine. Assumes nothing.
-use mathlib.Core.List.{List, []}
+use mathlib.Core.List.{[]}
 use mathlib.Core.Path.{_≡_}
 use Prim.Native.Nat.{ℕ}
 use lib.IntN.{ℤ, pos, _*ℤ_}
@@ -10,7 +10,6 @@ use Rattle.engine.specs.declared.Loaded.{Loaded}
 use Rattle.engine.specs.declared.Mode.{Mode}
 use Rattle.engine.specs.declared.Integration.{Integration}
 use Rattle.engine.specs.declared.State.{State}
-use Rattle.engine.specs.declared.Measurement.{Measurement}
 use Rattle.engine.specs.declared.Event.{Event}
 use Rattle.engine.specs.declared.Entry.{Entry}
 use Rattle.engine.specs.declared.Answer.{Answer}

@@ -4,7 +4,7 @@ use Prim.Native.Nat.{ℕ, _*_, _/_}
 use mathlib.Core.Bool.{Bool, _&&_, cond}
 use mathlib.Core.List.{List}
 use lib.Dec.{ltb, eqb}
-use lib.IntN.{ℤ, natAbs}
+use lib.IntN.{natAbs}
 use lib.Signed.{nonNeg}
 use lib.ListN.{length}
 use Rattle.curve.specs.declared.Sheet.{Sheet}

@@ -1,6 +1,5 @@
 -- An event record as an entry: document 01's nine kinds, with zero where a kind has no field; else it is malformed, which is
 -- refusal 11. Assumes nothing.
-use Prim.Native.Nat.{ℕ}
 use mathlib.Core.Bool.{Bool, _&&_, cond}
 use lib.Dec.{eqb}
 use lib.IntN.{natAbs}

@@ -1,7 +1,7 @@
 -- Demand 3 holds, for every list of sheets and every list of entries of any length, from a fresh engine: one induction over the
 -- list, the state and the ledger going together. And at every state that a list leaves the code's step goes by the rules. Assumes
 -- nothing.
-use mathlib.Core.Bool.{Bool, true, cond}
+use mathlib.Core.Bool.{Bool, true}
 use mathlib.Core.List.{List, [], _∷_}
 use mathlib.Core.Path.{_≡_, refl}
 use Prim.Native.Nat.{ℕ}
@@ -13,7 +13,7 @@ use Rattle.engine.specs.Rules.{rules, fresh}
 use Rattle.engine.specs.Step.{workable, stepOf}
 use Rattle.ledger.specs.Claim.{transcript, leaves, Holds, Demand3, Reachable}
 use Rattle.ledger.proofs.Tallies.{Keeps, idle}
-use Rattle.ledger.proofs.Lines.{Settings, workable-is, ledgerAt, Together, entry-good}
+use Rattle.ledger.proofs.Lines.{Settings, workable-is, ledgerAt, entry-good}
 
 fresh-settings : Settings fresh
 fresh-settings = record { sheet = refl; zero = omega arith; span-low = omega arith; span-high = omega arith; gas = refl }

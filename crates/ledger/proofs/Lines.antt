@@ -1,12 +1,12 @@
 -- One event under the rules, from a state whose settings are within their limits and whose integration keeps to the ledger's
 -- series: what the claim says of the answer holds, and the next state and ledger are such a pair again. Assumes nothing.
 use mathlib.Core.Bool.{Bool, true, false, cond, not, _&&_}
-use mathlib.Core.List.{List, [], _∷_, _++_}
-use mathlib.Core.Path.{_≡_, refl, sym, ap, _∙_, subst}
-use Prim.Native.Nat.{ℕ, suc, _+_, _*_, _≤_}
+use mathlib.Core.List.{List, [], _∷_}
+use mathlib.Core.Path.{_≡_, refl, sym, ap, subst}
+use Prim.Native.Nat.{ℕ, _*_, _≤_}
 use native.Mathlib.Nat.{le-of-lt}
 use native.Mathlib.Omega.{arith}
-use borrow.Author.Tests.{le-leb, leb-true, ne-eqb, eqb-true, eqb-false}
+use borrow.Author.Tests.{le-leb, leb-true, ne-eqb}
 use lib.Dec.{eqb, leb, ltb, eqb·suc-zero}
 use lib.IntN.{ℤ, pos, natAbs}
 use lib.ListN.{length}
@@ -34,7 +34,7 @@ use Rattle.engine.specs.declared.Answer.{Answer}
 use Rattle.engine.specs.declared.Stepped.{Stepped}
 use Rattle.engine.specs.declared.Lookup.{Lookup}
 use Rattle.engine.specs.declared.Sampled.{Sampled}
-use Rattle.engine.specs.Answer.{refusalOf, kindOf}
+use Rattle.engine.specs.Answer.{kindOf}
 use Rattle.engine.specs.Sheets.{asSheet, recordWithin, sheetsHeld, lookupOf}
 use Rattle.engine.specs.Sample.{airOf, inputWithin, sampledOf}
 use Rattle.engine.specs.Integration.{countedOf, closedOf, areaAnswer}
@@ -42,8 +42,8 @@ use Rattle.engine.specs.Rules.{answered, refused, withIntegration, idleWith, ne
 use Rattle.engine.specs.Step.{loadedWithin, modeWithin, workable}
 use Rattle.ledger.specs.Ledger.{Ledger, settled, withSeries, taken, exactValue, ledgerStep}
 use Rattle.ledger.specs.Claim.{RefusalHolds, LedgerHolds}
-use Rattle.ledger.proofs.Tallies.{tallyOf, Small, Keeps, idle, running, closed, started, keeps-closed, keeps-counted, keeps-within, takenSeries, takenRuns}
-use Rattle.ledger.proofs.Samples.{Sound, Worth, sample-sound}
+use Rattle.ledger.proofs.Tallies.{tallyOf, Keeps, idle, running, closed, started, keeps-closed, keeps-counted, keeps-within, takenSeries, takenRuns}
+use Rattle.ledger.proofs.Samples.{Sound, sample-sound}
 
 -- ---- settings within their limits
 pub record Settings (st : State) : Type 0 where

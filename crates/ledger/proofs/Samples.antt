@@ -1,19 +1,16 @@
 -- What an accepted sample is worth: its wet and dry value beside the exact ones, and equation (11) at its reference signal. And
 -- every refusal of a sample has a number of the list. Assumes nothing.
-use mathlib.Core.Bool.{Bool, true, false, cond, _&&_}
-use mathlib.Core.Path.{_≡_, refl, sym, ap, subst, _∙_}
-use Prim.Native.Nat.{ℕ, zero, suc, _*_, _≤_, _<_}
+use mathlib.Core.Bool.{Bool, true, false, cond}
+use mathlib.Core.Path.{_≡_, refl, subst, _∙_}
+use Prim.Native.Nat.{ℕ, _*_, _≤_, _<_}
 use native.Mathlib.Omega.{arith}
 use borrow.Author.Tests.{leb-true}
 use lib.Dec.{leb}
 use lib.IntN.{ℤ, pos, natAbs}
-use lib.Signed.{_<ℤ_}
 use Rattle.rounding.proofs.Difference.{is-nat, of-lt}
 use Rattle.curve.specs.declared.Sheet.{Sheet}
-use Rattle.curve.specs.declared.Air.{Air}
 use Rattle.curve.specs.declared.Reading.{Reading}
 use Rattle.curve.specs.Limits.{SheetOk, AirOk, airWithin}
-use Rattle.curve.specs.Curve.{dryOf}
 use Rattle.curve.specs.Absolute.{absoluteOf}
 use Rattle.curve.proofs.Within.{both, air-ok}
 use Rattle.curve.proofs.Accepted.{accepted, value-size}
@@ -21,8 +18,8 @@ use Rattle.reference.specs.declared.Found.{Found}
 use Rattle.reference.specs.Signal.{signalOf, againstOf}
 use Rattle.reference.specs.Search.{referenceOf}
 use Rattle.reference.proofs.Bracket.{at-reference, below-reference}
-use Rattle.exact.specs.Fraction.{Fraction, LiesWithin}
-use Rattle.exact.specs.Bounds.{againstBound, dryBound}
+use Rattle.exact.specs.Fraction.{LiesWithin}
+use Rattle.exact.specs.Bounds.{againstBound}
 use Rattle.exact.proofs.Distance.{absolute-distance, absolute-dry-distance, against-distance, against-dry-distance, reference-at-least, reference-less-than, lies-weaken}
 use Rattle.engine.specs.declared.Loaded.{Loaded}
 use Rattle.engine.specs.declared.Cylinder.{Cylinder}

@@ -1,19 +1,19 @@
 -- The tally of a list of wet values, and the integration beside the ledger's series: each wet value is within 1,800 of the exact
 -- value in its place. Counting and closing keep them together. Assumes nothing.
-use mathlib.Core.Bool.{Bool, true, false, not, cond, _&&_}
+use mathlib.Core.Bool.{Bool, true, false, not, cond}
 use mathlib.Core.List.{List, [], _∷_, _++_, foldl, append-nil, append-assoc}
 use mathlib.Core.Path.{_≡_, refl, sym, ap, _∙_}
 use Prim.Native.Nat.{ℕ, zero, suc, _+_, _*_, _-_, _≤_, _<_}
 use native.Mathlib.Nat.{le-of-lt}
 use native.Mathlib.Omega.{arith}
-use borrow.Author.Tests.{le-leb, lt-ltb, eqb-false, ne-eqb}
+use borrow.Author.Tests.{le-leb, lt-ltb, eqb-false}
 use lib.Dec.{eqb, eqb·suc-zero}
 use lib.IntN.{ℤ, pos, natAbs, _+ℤ_, +ℤ-assoc, +ℤ-idl, +ℤ-idr}
 use lib.ListN.{length, getD, length-append}
 use Rattle.rounding.proofs.Integers.{abs-add}
 use Rattle.exact.specs.Fraction.{Fraction, LiesWithin}
 use Rattle.exact.specs.Bounds.{againstBound}
-use Rattle.exact.specs.Area.{firstOf, lastOf, sumOf, areaOf, EachWithin, empty, next}
+use Rattle.exact.specs.Area.{firstOf, lastOf, sumOf, areaOf, EachWithin, empty}
 use Rattle.exact.proofs.Area.{same-length, each-append}
 use Rattle.engine.specs.declared.Tally.{Tally}
 use Rattle.engine.specs.declared.Integration.{Integration}

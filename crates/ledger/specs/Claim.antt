@@ -7,7 +7,7 @@ use mathlib.Core.Path.{_≡_}
 use lib.IntN.{ℤ, pos, _+ℤ_, _-ℤ_}
 use lib.ListN.{length}
 use Rattle.curve.specs.declared.Sheet.{Sheet}
-use Rattle.exact.specs.Fraction.{Fraction, whole, LiesWithin, AtLeast, LessThan}
+use Rattle.exact.specs.Fraction.{whole, LiesWithin, AtLeast, LessThan}
 use Rattle.exact.specs.Equation.{exactWet, exactDry}
 use Rattle.exact.specs.Area.{exactArea}
 use Rattle.exact.specs.Bounds.{absoluteBound, againstBound, dryBound, referenceBound, areaBound}
@@ -19,7 +19,6 @@ use Rattle.engine.specs.declared.Measurement.{Measurement}
 use Rattle.engine.specs.declared.Event.{Event}
 use Rattle.engine.specs.declared.Entry.{Entry}
 use Rattle.engine.specs.declared.Answer.{Answer}
-use Rattle.engine.specs.declared.Stepped.{Stepped}
 use Rattle.engine.specs.Answer.{refusalOf, mOf, xOf, yOf}
 use Rattle.engine.specs.Sample.{airOf, referenceAir}
 use Rattle.engine.specs.Rules.{rules, fresh, answered}

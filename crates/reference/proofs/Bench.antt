@@ -14,7 +14,6 @@ use Rattle.curve.specs.Curve.{reducedOf, slope2Of, slope1Of, cubicOf, moistOf, 
 use Rattle.curve.specs.Absolute.{absoluteOf}
 use Rattle.curve.specs.Bench.{benchSheet, benchAir}
 use Rattle.curve.proofs.Order.{NotAbove}
-use Rattle.reference.specs.declared.Found.{Found}
 use Rattle.reference.specs.declared.Found.the-variants.{At, Nothing}
 use Rattle.reference.specs.declared.Sought.the-variants.{Signal, Span}
 use Rattle.reference.specs.Signal.{signalOf, againstOf}

@@ -6,7 +6,7 @@ use Prim.Native.Nat.{ℕ, suc, _≤_, _<_}
 use native.Mathlib.Omega.{arith}
 use lib.Dec.{T}
 use lib.IntN.{ℤ, pos}
-use lib.Signed.{leZ, _≤ℤ_, _<ℤ_}
+use lib.Signed.{_≤ℤ_, _<ℤ_}
 use Rattle.rounding.proofs.Integers.{nonnegative}
 use Rattle.rounding.proofs.Tests.{le-true, le-false}
 use Rattle.curve.specs.declared.Sheet.{Sheet}

@@ -1,6 +1,6 @@
 -- The laws of `least`: it is found where the test holds at a number and nowhere before, it is none where the test holds
 -- nowhere, and a stretch is searched by its halves. Nothing above this file unfolds it. Assumes nothing.
-use mathlib.Core.Path.{_≡_, refl, sym, _∙_, ap, subst}
+use mathlib.Core.Path.{_≡_, refl, sym, ap, subst}
 use mathlib.Core.Bool.{Bool, true, false, cond, not}
 use Prim.Native.Nat.{ℕ, zero, suc, _+_, _-_, _≤_, _<_}
 use native.Mathlib.Omega.{arith}

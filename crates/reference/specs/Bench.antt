@@ -1,7 +1,6 @@
 -- The starred reference and span cases of document 01, "Readings on the bench", as statements about the rules. Assumes
 -- nothing.
 use mathlib.Core.Path.{_≡_}
-use Prim.Native.Nat.{ℕ}
 use lib.IntN.{ℤ, pos, negsuc}
 use Rattle.curve.specs.declared.Sheet.{Sheet}
 use Rattle.curve.specs.declared.Reading.{Reading}

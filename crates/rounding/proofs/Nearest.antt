@@ -1,17 +1,16 @@
 -- The laws of `nearest`, by which the crates above know it: within half a step, monotone, exact at multiples, zero at zero,
 -- the sign kept, no larger than a whole bound; and what the code computes at each sign. Nothing above this file unfolds it.
 -- Assumes nothing.
-use mathlib.Core.Path.{_≡_, refl, sym, ap, subst, _∙_}
-use mathlib.Core.Bool.{Bool, true, false, cond}
+use mathlib.Core.Path.{_≡_, refl, subst}
+use mathlib.Core.Bool.{true, false}
 use Prim.Native.Nat.{ℕ, zero, suc, _+_, _*_, _-_, _/_, _≤_, _<_}
-use native.Mathlib.Nat.{add-div-right, div-eq-of-lt, mul-div-le, lt-div-mul-add, lt-of-mul-lt-mul-left}
-use native.Mathlib.Numerals.{add-one}
+use native.Mathlib.Nat.{mul-div-le, lt-div-mul-add, lt-of-mul-lt-mul-left}
 use native.Mathlib.Omega.{arith}
 use lib.Dec.{T}
 use lib.IntN.{ℤ, pos, negsuc, negℤ, natAbs, _+ℤ_, _-ℤ_, _*ℤ_}
 use lib.Signed.{ltZ, _≤ℤ_, _<ℤ_}
 use Rattle.rounding.specs.Near.{floor, nearest}
-use Rattle.rounding.proofs.Difference.{Is, is-nat, is-add, is-minus, is-mul, is-neg, is-scale, is-parts, is-shift, is-eq, is-le, of-le, of-lt, up, down, abs-le, of-abs-le}
+use Rattle.rounding.proofs.Difference.{Is, is-nat, is-add, is-minus, is-mul, is-neg, is-scale, is-parts, is-eq, is-le, of-le, of-lt, up, down, abs-le, of-abs-le}
 use Rattle.rounding.proofs.Machine.{not-below-0}
 
 -- ---- where it lies

@@ -1,12 +1,12 @@
 -- What a test of order on integers says, held or failed, and how a fact settles it. Assumes nothing.
 use mathlib.Core.Path.{_≡_, refl, sym, subst}
 use mathlib.Core.Bool.{Bool, true, false, not}
-use Prim.Native.Nat.{ℕ, suc, _+_, _≤_, _<_}
+use Prim.Native.Nat.{ℕ, _≤_, _<_}
 use native.Mathlib.Omega.{arith}
 use lib.Dec.{T}
-use lib.IntN.{ℤ, pos, negsuc, natAbs}
+use lib.IntN.{ℤ, pos, natAbs}
 use lib.Signed.{ltZ, leZ, _≤ℤ_, _<ℤ_, leZ-yes, ltZ-yes, ltZ-no, clashℤ}
-use Rattle.rounding.proofs.Difference.{is-nat, is-parts, is-le, is-lt, of-le, of-lt, up, down, abs-le}
+use Rattle.rounding.proofs.Difference.{is-nat, is-parts, of-le, abs-le}
 
 holds : (b : Bool) → b ≡ true → T b
 holds true e = tt

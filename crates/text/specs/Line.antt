@@ -1,7 +1,7 @@
 -- An answer as a line of text, in ASCII: document 01's printed line. The contracts of `text` cite these definitions, and so does
 -- whoever speaks of what a session prints. Assumes nothing.
 use Prim.Native.Nat.{ℕ, zero, suc, _+_, _/_, _%_}
-use mathlib.Core.Bool.{Bool, cond}
+use mathlib.Core.Bool.{cond}
 use mathlib.Core.List.{List, [], _∷_, _++_}
 use lib.Dec.{ltb}
 use lib.IntN.{ℤ, pos, negsuc}

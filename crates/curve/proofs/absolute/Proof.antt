@@ -1,14 +1,13 @@
 -- `absolute` meets its contract: each test is made where those before it fail, and leaves V and z small enough for what
 -- follows. Assumes nothing.
 use mathlib.Core.Path.{_≡_, sym, _∙_, ap}
-use mathlib.Core.Bool.{Bool, true, false}
-use Prim.Native.Nat.{ℕ, _≤_}
+use mathlib.Core.Bool.{false}
 use native.Mathlib.Omega.{arith}
 use borrow.Author.Needs.{needs}
 use mir.Facts.{toZ-ofZ}
 use mir.Syntax.{w64}
 use mir.Val.{SFits}
-use lib.IntN.{ℤ, pos, natAbs}
+use lib.IntN.{pos}
 use lib.Signed.{ltZ, leZ}
 use Rattle.rounding.proofs.Tests.{lt-false, size-of}
 use Rattle.curve.specs.declared.Reading.the-variants.{Value}

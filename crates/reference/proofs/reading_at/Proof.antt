@@ -1,13 +1,11 @@
 -- `reading_at` meets its contract: in each case the limits are those that the callee asks. Assumes nothing.
-use mathlib.Core.Path.{_≡_, sym, _∙_, ap, subst}
-use Prim.Native.Nat.{ℕ}
+use mathlib.Core.Path.{sym, _∙_, ap, subst}
 use native.Mathlib.Omega.{arith}
 use borrow.Author.Needs.{needs}
 use mir.Facts.{toZ-ofZ}
 use mir.Syntax.{w64}
 use mir.Val.{SFits}
 use Rattle.reference.specs.declared.Sought.{Sought}
-use Rattle.reference.specs.declared.Sought.the-variants.{Signal, Span}
 use Rattle.reference.specs.Sought.{SoughtOk, soughtReading}
 use Rattle.reference.proofs.reading_at.Statement.{statement}
 use Rattle.reference.proofs.reading_at.Tie as tie

@@ -1,5 +1,4 @@
 -- `reference_signal` meets its contract: the search runs over every signal from 0 to 150,000,000. Assumes nothing.
-use native.Mathlib.Omega.{arith}
 use borrow.Author.Needs.{needs}
 use Rattle.reference.specs.Search.{referenceOf}
 use Rattle.reference.proofs.reference_signal.Statement.{statement}

@@ -1,5 +1,5 @@
 -- `sheet_within` meets its contract: each test is made where those before it hold. Assumes nothing.
-use mathlib.Core.Path.{_≡_, sym, _∙_}
+use mathlib.Core.Path.{sym, _∙_}
 use borrow.Author.Needs.{needs}
 use borrow.Author.Tests.{le-leb, lt-leb, not-true, not-false}
 use Rattle.curve.specs.Limits.{sheetWithin}

@@ -1,5 +1,4 @@
 -- `within` meets its contract: the second test is made where the first holds. Assumes nothing.
-use mathlib.Core.Path.{sym}
 use borrow.Author.Tests.{le-leb, lt-leb}
 use Rattle.curve.proofs.limits.within.Statement.{statement}
 use Rattle.curve.proofs.limits.within.Tie as tie

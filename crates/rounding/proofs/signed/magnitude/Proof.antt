@@ -1,5 +1,5 @@
 -- `magnitude` meets its contract at every word: the complement of −(k + 1) is k. Assumes nothing.
-use mathlib.Core.Path.{_≡_, sym, _∙_, ap}
+use mathlib.Core.Path.{sym, _∙_, ap}
 use native.Mathlib.Numerals.{add-one}
 use native.Mathlib.Omega.{arith}
 use mir.Facts.{toZ-ofZ}

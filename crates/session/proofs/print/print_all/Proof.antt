@@ -1,6 +1,5 @@
 -- `session::print::print_all` meets its contract. Its loop has the invariant `Printing`, and every answer's m fits. Assumes
 -- nothing.
-use native.Mathlib.Omega.{arith}
 use mathlib.Core.Path.{ap, _∙_}
 use Rattle.engine.specs.Step.{stepOf}
 use borrow.Author.Needs.{needs}

@@ -85,8 +85,11 @@ pub struct Campaign {
 impl Campaign {
     /// As many sessions as the environment variable IRGA_SESSIONS says, or 20,000.
     pub fn from_environment(seed: u64, folder: &Path) -> Campaign {
-        let asked = std::env::var("IRGA_SESSIONS").ok();
-        let sessions = asked.and_then(|text| text.parse().ok()).unwrap_or(20_000);
+        let sessions = match std::env::var("IRGA_SESSIONS") {
+            Ok(text) => text.parse().ok().filter(|count| *count > 0),
+            Err(_) => Some(20_000),
+        };
+        let sessions = sessions.expect("IRGA_SESSIONS is a whole number above 0");
         Campaign { seed, sessions, folder: folder.to_path_buf() }
     }
 

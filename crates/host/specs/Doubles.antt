@@ -51,7 +51,8 @@ doublesOf a = record { wet = doubleOf (a .x); dry = doubleOf (a .y); signal = do
 abbrev pub acceptedAs : ℕ → AnswerRecord → Bool
 acceptedAs kind a = eqb (a .refusal) 0 && eqb (a .kind) kind && belowLimit (a .x)
 
--- any other record is refused: with its own number, or where it has none with 11, malformed, since no engine answers so
+-- any other record is refused: with its own number, or where it has none with 11, malformed, since no sample, or no area, is
+-- answered so
 abbrev pub refusedWith : AnswerRecord → ℕ
 refusedWith a = cond (eqb (a .refusal) 0) 11 (a .refusal)
 

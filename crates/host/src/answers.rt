@@ -1,6 +1,7 @@
 // Answer records as doubles. A whole number below 2^53 in size becomes a double by `as`, and nothing is lost.
 ghost use mathlib.Core.Path.{_≡_};
 ghost use mathlib.Core.Bool.{_&&_};
+ghost use Rattle.layout.specs.Records.{answerAt};
 ghost use Rattle.host.specs.Doubles.{belowLimit, acceptedAs, refusedWith, hostSample, hostArea, Exactly, hostSampleIn, hostAreaIn};
 use crate::Doubles;
 use crate::HostAnswer;
@@ -10,7 +11,7 @@ use rounding::signed::magnitude;
 
 const RECORD_BYTES: usize = 24;
 
-// The answer to a sample. A record that no sample of the engine gets is malformed.
+// The answer to a sample. A refused record keeps its number; one that is no accepted sample's is malformed.
 pub fn of_sample(a: AnswerRecord) -> HostAnswer
     ensures { λ r. ⌜ r ≡ hostSample a ⌝ }
     ensures { λ r. ⌜ Exactly r a ⌝ }
@@ -39,6 +40,7 @@ pub fn of_area(a: AnswerRecord) -> HostAnswer
 // The answer to a sample from the bytes of its record. What stands after them is not read.
 pub fn sample_in(answer: &[u8]) -> HostAnswer
     ensures { λ r. ⌜ r ≡ hostSampleIn (now (answer .entry)) ⌝ }
+    ensures { λ r. ⌜ Exactly r (answerAt (now (answer .entry)) 0) ⌝ }
 {
     if answer.len() < RECORD_BYTES {
         return HostAnswer::Refused(11);
@@ -49,6 +51,7 @@ pub fn sample_in(answer: &[u8]) -> HostAnswer
 // The answer to an area event from the bytes of its record.
 pub fn area_in(answer: &[u8]) -> HostAnswer
     ensures { λ r. ⌜ r ≡ hostAreaIn (now (answer .entry)) ⌝ }
+    ensures { λ r. ⌜ Exactly r (answerAt (now (answer .entry)) 0) ⌝ }
 {
     if answer.len() < RECORD_BYTES {
         return HostAnswer::Refused(11);
@@ -86,7 +89,7 @@ fn refused_with(a: AnswerRecord) -> u8
     if a.refusal != 0 { a.refusal } else { 11 }
 }
 
-// Whether every whole number of this size is a double.
+// Below 2^53 in size: every whole number so small is a double.
 fn below_limit(x: i64) -> bool
     ensures { λ r. ⌜ r ≡ belowLimit x ⌝ }
 {

@@ -66,7 +66,7 @@ module _ (s : Sheet) (okS : SheetOk s) (g : Ledger) (loaded : g .sheet ≡ Loade
         let h = at-reference s a (gas .c) r f in
         record {
           here = reference-at-least s okS a okR r (gas .c) (h .c) (h .value) (h .high);
-          lower = λ v e.
+          below = λ v e.
               let l = below-reference s a (gas .c) okS okR v (subst (λ (n : ℕ). referenceOf s (gas .c) a ≡ Found.At n) e f) in
               reference-less-than s okS a okR v (gas .c) (l .c) (l .value) (l .low);
         }

@@ -66,7 +66,7 @@ wetBound (Mode.Against gas) = againstBound
 -- T, is at least the cylinder less 450; one unit lower, if R isn't zero, it is less than the cylinder plus 450
 pub record AtSignal (s : Sheet) (gas : Cylinder) (at : Measurement) (r : ℕ) : Type 0 where
   pub here : AtLeast (exactWet s (whole (pos r)) (referenceAir (airOf at) gas)) (pos (gas .c) -ℤ pos referenceBound)
-  pub lower : (v : ℕ) → r ≡ suc v → LessThan (exactWet s (whole (pos v)) (referenceAir (airOf at) gas)) (pos (gas .c) +ℤ pos referenceBound)
+  pub below : (v : ℕ) → r ≡ suc v → LessThan (exactWet s (whole (pos v)) (referenceAir (airOf at) gas)) (pos (gas .c) +ℤ pos referenceBound)
 
 abbrev pub SignalHolds : Loaded → Mode → Measurement → ℕ → Type 0
 SignalHolds Loaded.Nothing mode at r = ⊥

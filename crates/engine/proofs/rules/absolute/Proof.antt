@@ -18,13 +18,13 @@ refuse-requires c κs = search needs
 returns : tie.Need-returns
 returns c = rw (c .refuse .ensures, c .before .enum-told2 .given .1)
 
-settled-requires : tie.Need-settled-requires
-settled-requires c κs = search needs
+idle-with-requires : tie.Need-idle-with-requires
+idle-with-requires c κs = search needs
 
 returns-2 : tie.Need-returns-2
 returns-2 c =
     let f : SFits w64 (c .before .before .before .before .args .st .q) = search needs in
-    rw (simp toZ-ofZ at (c .settled .ensures), c .before .before .enum-told .given .1)
+    rw (simp toZ-ofZ at (c .idle-with .ensures), c .before .before .enum-told .given .1)
 
 pub absolute-spec : {M : Type 1} → statement M
-absolute-spec = tie.close (tie.spec enum-told enum-told-2 refuse-requires returns settled-requires returns-2)
+absolute-spec = tie.close (tie.spec enum-told enum-told-2 refuse-requires returns idle-with-requires returns-2)

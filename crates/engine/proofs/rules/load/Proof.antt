@@ -9,8 +9,8 @@ find-sheet-requires c κs = search needs
 enum-known-s : tie.Need-enum-known-s
 enum-known-s c = search needs
 
-settled-requires : tie.Need-settled-requires
-settled-requires c κs = search needs
+idle-with-requires : tie.Need-idle-with-requires
+idle-with-requires c κs = search needs
 
 enum-known-number : tie.Need-enum-known-number
 enum-known-number c = search needs
@@ -19,7 +19,7 @@ refuse-requires : tie.Need-refuse-requires
 refuse-requires c κs = search needs
 
 returns : tie.Need-returns
-returns c = rw (c .settled .ensures, ← c .before .before .before .before .find-sheet .ensures, c .before .before .s .given .1)
+returns c = rw (c .idle-with .ensures, ← c .before .before .before .before .find-sheet .ensures, c .before .before .s .given .1)
 
 returns-2 : tie.Need-returns-2
 returns-2 c = rw (c .refuse .ensures, ← c .before .before .before .before .find-sheet .ensures, c .before .before .number .given .1)
@@ -27,4 +27,4 @@ returns-2 c = rw (c .refuse .ensures, ← c .before .before .before .before .fin
 pub load-spec : {M : Type 1} → statement M
 load-spec =
     tie.close
-    (tie.spec find-sheet-requires enum-known-s settled-requires enum-known-number refuse-requires returns returns-2)
+    (tie.spec find-sheet-requires enum-known-s idle-with-requires enum-known-number refuse-requires returns returns-2)

@@ -31,14 +31,14 @@ refuse-requires-3 c κs = search needs
 returns-3 : tie.Need-returns-3
 returns-3 c = rw (c .refuse3 .ensures, c .before .before .before .enum-told .given .1, le-leb _ _ (c .before .before .if1 .left), lt-leb _ _ (c .before .if2 .taken))
 
-settled-requires : tie.Need-settled-requires
-settled-requires c κs = search needs
+idle-with-requires : tie.Need-idle-with-requires
+idle-with-requires c κs = search needs
 
 returns-4 : tie.Need-returns-4
 returns-4 c =
     let b = c .before .before in
     let f : SFits w64 (b .before .before .before .before .args .st .q) = search needs in
-    rw (simp toZ-ofZ at (c .settled .ensures), b .before .before .enum-told .given .1, le-leb _ _ (b .before .if1 .left), le-leb _ _ (b .if2 .left))
+    rw (simp toZ-ofZ at (c .idle-with .ensures), b .before .before .enum-told .given .1, le-leb _ _ (b .before .if1 .left), le-leb _ _ (b .if2 .left))
 
 pub reference-spec : {M : Type 1} → statement M
 reference-spec =
@@ -52,5 +52,5 @@ reference-spec =
     returns-2
     refuse-requires-3
     returns-3
-    settled-requires
+    idle-with-requires
     returns-4)

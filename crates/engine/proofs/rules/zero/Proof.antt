@@ -36,15 +36,15 @@ returns-2 c = rw (c .refuse2 .ensures, c .before .before .before .enum-told .giv
 wide-requires : tie.Need-wide-requires
 wide-requires c κs = search needs
 
-settled-requires : tie.Need-settled-requires
-settled-requires c κs = search needs
+idle-with-requires : tie.Need-idle-with-requires
+idle-with-requires c κs = search needs
 
 returns-3 : tie.Need-returns-3
 returns-3 c =
     let b = c .before .before in
     let f = b .before .before .before .before .fits .raw in
     let g : SFits w64 (c .before .wide .result) = search needs in
-    rw (simp toZ-ofZ at (c .settled .ensures), simp toZ-ofZ at (c .before .wide .ensures), b .before .before .enum-told .given .1, size-is (b .before), le-leb _ _ (b .if1 .left))
+    rw (simp toZ-ofZ at (c .idle-with .ensures), simp toZ-ofZ at (c .before .wide .ensures), b .before .before .enum-told .given .1, size-is (b .before), le-leb _ _ (b .if1 .left))
 
 pub zero-spec : {M : Type 1} → statement M
 zero-spec =
@@ -58,5 +58,5 @@ zero-spec =
     refuse-requires-2
     returns-2
     wide-requires
-    settled-requires
+    idle-with-requires
     returns-3)

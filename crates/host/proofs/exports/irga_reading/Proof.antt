@@ -18,13 +18,13 @@ enum-known-got-2 : tie.Need-enum-known-got-2
 enum-known-got-2 c = search needs
 
 returns : tie.Need-returns
-returns c = rw (← c .before .before .before .sample-in .ensures, c .before .got .given .1) (refl, (refl, (refl, refl)))
+returns c = rw (← c .before .before .before .sample-in .ensures .0, c .before .got .given .1) (refl, (refl, (refl, refl)))
 
 returns-2 : tie.Need-returns-2
-returns-2 c = absurd (sample-no-area _ (sym (c .before .before .sample-in .ensures) ∙ c .enum-told .given .1))
+returns-2 c = absurd (sample-no-area _ (sym (c .before .before .sample-in .ensures .0) ∙ c .enum-told .given .1))
 
 returns-3 : tie.Need-returns-3
-returns-3 c = rw (← c .before .before .before .sample-in .ensures, c .before .got2 .given .1) (refl, (refl, (refl, refl)))
+returns-3 c = rw (← c .before .before .before .sample-in .ensures .0, c .before .got2 .given .1) (refl, (refl, (refl, refl)))
 
 pub irga-reading-spec : {M : Type 1} → statement M
 irga-reading-spec =

@@ -43,7 +43,7 @@ static const char *meaning(unsigned refusal) {
 /*
  * 10^6 pmol/mol are 1 umol/mol, so six decimals show every pmol/mol. An area counts in
  * pmol/mol times 0.1 s, 10^7 to the umol/mol s: seven decimals. The quotients are rounded
- * doubles, but far closer to the decimal figure than half of its last digit.
+ * doubles, but closer to the decimal figure than half of its last digit.
  */
 static void print_sample(unsigned long ordinal, double wet, double dry) {
     printf("%lu: wet %.6f umol/mol, dry %.6f umol/mol\n", ordinal, wet / 1e6, dry / 1e6);
@@ -70,7 +70,8 @@ static void print_answer(unsigned long ordinal, const uint8_t *answer) {
 }
 
 static int trouble(const char *what, const char *name) {
-    fprintf(stderr, "readings: cannot %s %s: %s\n", what, name, strerror(errno));
+    fprintf(stderr, "readings: cannot %s %s%s%s\n", what, name, errno != 0 ? ": " : "",
+            errno != 0 ? strerror(errno) : "");
     return TROUBLE;
 }
 

@@ -2,18 +2,20 @@
  * irga.h: the engine of an infrared CO2 analyser's teaching box, as a C library.
  *
  * A lesson is a session file: calibration sheets, then events (load a sheet, set the
- * zero, read a sample, ...). irga_run answers each event with a record of 24 bytes;
+ * zero, read a sample, ...); README.md has its bytes, under "The session file". irga_run answers each event with a record of 24 bytes;
  * irga_reading and irga_area take the numbers out of such a record as doubles;
  * irga_lines gives the same answers as text.
  *
- * The library is libhost.a, for x86-64. It needs nothing but the C library:
+ * The library is libhost.a, for x86-64 Linux. It calls no other library:
  *
  *     cc -std=c99 -Iinclude examples/readings.c target/staticlib/libhost.a -o readings
  *
  * What holds for all four functions:
  *
  * - No state is kept between calls and nothing is allocated. Any number of threads may
- *   call at once, as long as no two of them are lent the same output.
+ *   call at once, as long as nothing that a call is lent is written by anyone else until
+ *   it returns.
+ * - A call took less than 10,000 bytes of stack wherever it was measured; give it 16 KiB.
  * - No pointer may be NULL, not even with a length of 0, and the places that are lent to
  *   one call may not overlap.
  * - File, answer and output are bytes and need no alignment; size_t and double objects
@@ -78,7 +80,8 @@ enum irga_refusal {
     IRGA_ZERO_RANGE = 3,           /* zero beyond 20,000,000 on either side */
     IRGA_CYLINDER_RANGE = 4,       /* cylinder, or its vapour pressure, outside its range */
     IRGA_NO_SPAN = 5,              /* no span serves, or one below the lowest would */
-    IRGA_INPUT_LIMITS = 6,         /* raw signal, pressure, temperature or vapour pressure */
+    IRGA_INPUT_LIMITS = 6,         /* raw signal, pressure, temperature or vapour pressure
+                                      outside its limits, the reference gas's included */
     IRGA_BELOW_ZERO = 7,           /* the signal is below zero */
     IRGA_OVER_RANGE = 8,           /* the signal or the mole fraction is over range */
     IRGA_NO_REFERENCE_SIGNAL = 9,  /* no signal reads the reference cylinder */
@@ -134,9 +137,9 @@ uint8_t irga_lines(const uint8_t *file, size_t file_length,
  * signal                  gets the reference signal in 100 nV, 0 in absolute mode
  *
  * Returns IRGA_ACCEPTED; or the refusal that the answer holds, whatever its kind; or
- * IRGA_MALFORMED_EVENT for bytes that are no sample's answer: fewer than 24, an accepted
- * event of another kind, or a wet or dry value of 2^53 or more in size, which a double
- * might not hold.
+ * IRGA_MALFORMED_EVENT for fewer than 24 bytes, for an accepted event of another kind, and
+ * for a wet or dry value of 2^53 or more in size, which a double might not hold. Bytes 2
+ * and 3 are not read.
  *
  * Touches: the three doubles if it returns 0, and nothing else.
  */

@@ -59,6 +59,9 @@ impl Program for Executable {
         let writer = thread::spawn(move || standard_input.write_all(&input).is_ok());
         let output = child.wait_with_output().map_err(|why| fault("wait", why))?;
         writer.join().map_err(|_| "the writer failed".to_string())?;
+        if !output.status.success() {
+            return Err(format!("the program ended with {}", output.status));
+        }
         Ok(output.stdout)
     }
 }

@@ -52,13 +52,17 @@ fn header_stands_alone_in_c_and_in_cpp() {
     compile(CPP, &["-fsyntax-only", "-x", "c++", "include/irga.h"]);
 }
 
+/// As many sheets and events as a file may have.
+fn longest() -> Session {
+    Session {
+        sheets: vec![irga_tests::bench::sheet(); file::SHEETS_LIMIT],
+        events: vec![Default::default(); file::EVENTS_LIMIT],
+    }
+}
+
 /// The header's constants by name, and what this implementation or document 01 has.
 fn constants() -> Vec<(&'static str, usize)> {
     let (sheets, events) = (file::SHEETS_LIMIT, file::EVENTS_LIMIT);
-    let full = Session {
-        sheets: vec![irga_tests::bench::sheet(); sheets],
-        events: vec![Default::default(); events],
-    };
     let refusal = |refusal: Refusal| usize::from(refusal.number());
     vec![
         ("IRGA_HEADER_BYTES", file::HEADER_BYTES),
@@ -66,9 +70,14 @@ fn constants() -> Vec<(&'static str, usize)> {
         ("IRGA_LINE_ROOM", file::LINE_ROOM),
         ("IRGA_SHEETS_MAX", sheets),
         ("IRGA_EVENTS_MAX", events),
-        ("IRGA_FILE_MAX", full.to_bytes().len()),
+        ("IRGA_FILE_MAX", longest().to_bytes().len()),
         ("IRGA_ANSWERS_MAX", file::RECORD_BYTES * events),
         ("IRGA_LINES_MAX", file::LINE_ROOM * events),
+        ("IRGA_ANSWER_KIND", 0),
+        ("IRGA_ANSWER_REFUSAL", 1),
+        ("IRGA_ANSWER_M", 4),
+        ("IRGA_ANSWER_X", 8),
+        ("IRGA_ANSWER_Y", 16),
         ("IRGA_ACCEPTED", 0),
         ("IRGA_NO_SHEET", refusal(Refusal::NoSheet)),
         ("IRGA_SHEET_LIMITS", refusal(Refusal::SheetOutsideLimits)),
@@ -252,9 +261,14 @@ fn readings_of_what_is_no_session() {
     let damaged = scratch("damaged.session");
     fs::write(&damaged, &lesson[..lesson.len() - 1]).expect("a written file");
     assert_said(&run(&program, &[&damaged], None), 1, "refused 12, ");
+    // The longest session is read whole, and one byte more is seen.
     let long = scratch("long.session");
-    fs::write(&long, vec![0; 65_201]).expect("a written file");
-    assert_said(&run(&program, &[&long], None), 1, "refused 12, ");
+    let mut bytes = longest().to_bytes();
+    fs::write(&long, &bytes).expect("a written file");
+    assert_eq!(run(&program, &[&long], None).status.code(), Some(0));
+    bytes.push(0);
+    fs::write(&long, &bytes).expect("a written file");
+    assert_said(&run(&program, &[&long], None), 1, "it is too long");
     assert_said(&run(&program, &[&scratch("nothing.session")], None), 2, "cannot open");
     assert_said(&run(&program, &[repository()], None), 2, "cannot read");
     assert_said(&run(&program, &[&damaged, &damaged], None), 2, "usage");

@@ -46,7 +46,7 @@ fn lines_are_the_same_bytes() {
 #[test]
 fn wrong_lines_are_caught() {
     let wrong: [(&str, Run); 3] = [
-        ("line", |file, output| {
+        (": line ", |file, output| {
             let outcome = file::lines(file, output);
             let minus = output[..outcome.written].iter().position(|byte| *byte == b'-');
             minus.into_iter().for_each(|at| output[at] = b'0');

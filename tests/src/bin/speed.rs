@@ -101,7 +101,7 @@ fn time(run: Run, case: &Case, output: &mut [u8], times: u32) -> Duration {
     began.elapsed()
 }
 
-/// As many runs as fill a round: counted up in the warm-up, which they are.
+/// As many runs as fill a round; finding the number is the warm-up.
 fn runs_of_a_round(run: Run, case: &Case, output: &mut [u8]) -> u32 {
     let mut times = 1;
     while time(run, case, output, times) < ROUND {

@@ -52,7 +52,7 @@ fn worst(points: &[Point]) -> String {
     let unrounded = largest(points, |point| &point.unrounded, 1);
     let engine = largest(points, |point| &point.engine, 4);
     let count = points.len();
-    format!("| the worst of {count} areas | | | {shown} | {unrounded} | {engine} | |\n")
+    format!("| the worst of {count} areas, in size | | | {shown} | {unrounded} | {engine} | |\n")
 }
 
 /// The table in Markdown; everything but the first two columns is in µmol/mol s.

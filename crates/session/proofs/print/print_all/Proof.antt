@@ -4,7 +4,7 @@ use mathlib.Core.Path.{ap, _∙_}
 use Rattle.engine.specs.Step.{stepOf}
 use borrow.Author.Needs.{needs}
 use Prim.Native.Nat.{_-_}
-use Rattle.session.proofs.Fits.{m-fits}
+use Rattle.session.proofs.Fits.{fits}
 use Rattle.session.proofs.Printing.{Printing, printing, printed, finished}
 use Rattle.session.proofs.print.print_all.Statement.{statement}
 use Rattle.session.proofs.print.print_all.Tie as tie
@@ -43,7 +43,7 @@ add-put-line : tie.Need-add-put-line Inv-loop μ-loop
 add-put-line c = search needs
 
 record-of-requires : tie.Need-record-of-requires Inv-loop μ-loop
-record-of-requires c κs = rw (c .before .step .ensures) (m-fits _ _ _)
+record-of-requires c κs = rw (c .before .step .ensures) (fits _ _ _ .m)
 
 put-line-requires : tie.Need-put-line-requires Inv-loop μ-loop
 put-line-requires c κs = search needs

@@ -15,7 +15,8 @@
  * - No state is kept between calls and nothing is allocated. Any number of threads may
  *   call at once, as long as nothing that a call is lent is written by anyone else until
  *   it returns.
- * - A call took less than 10,000 bytes of stack wherever it was measured; give it 16 KiB.
+ * - A call takes less than 10,000 bytes of stack, as the tests measure it (it is not
+ *   proved); give it 16 KiB.
  * - No pointer may be NULL, not even with a length of 0, and the places that are lent to
  *   one call may not overlap.
  * - File, answer and output are bytes and need no alignment; size_t and double objects

@@ -275,6 +275,27 @@ fn readings_of_what_is_no_session() {
     assert_said(&run(&program, &[], None), 1, "refused 12, ");
 }
 
+/// What include/irga.h says of the stack, over the lesson and sessions of every profile.
+#[test]
+fn a_call_takes_less_stack_than_the_header_says() {
+    let source = fs::read_to_string(repository().join("tests/c/stack.c"));
+    let program = link(C, "stack.c", &source.expect("the program is there"));
+    let mut random = Random::new(0x6269);
+    let mut paths = vec![repository().join("examples/lesson.session")];
+    for (number, profile) in PROFILES.iter().cycle().take(6 * PROFILES.len()).enumerate() {
+        let path = scratch(&format!("stack-{number}.session"));
+        fs::write(&path, sessions::session(&mut random, profile).to_bytes())
+            .expect("a written file");
+        paths.push(path);
+    }
+    let words: Vec<&Path> = paths.iter().map(PathBuf::as_path).collect();
+    let output = run(&program, &words, None);
+    let most = String::from_utf8(output.stdout).expect("a text");
+    let most: usize = most.trim_end().parse().expect("a number of bytes");
+    // A search of 28 halvings, each with a frame, cannot take less than this.
+    assert!((2_000..10_000).contains(&most), "{most} bytes");
+}
+
 /// A device that takes nothing: the lines are lost, and the status says so.
 #[test]
 fn readings_that_cannot_be_written() {

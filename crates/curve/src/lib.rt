@@ -1,7 +1,7 @@
 // Document 01, "Curve and absolute reading": from a signal to its wet and dry value.
 ghost use mathlib.Core.Path.{_≡_};
 ghost use Rattle.curve.specs.Limits.{SheetOk, AirOk};
-ghost use Rattle.curve.specs.Absolute.{absoluteOf};
+ghost use Rattle.curve.specs.Absolute.{readingRefusal, absoluteOf};
 use crate::steps::reduced;
 use crate::steps::wet;
 use rounding::signed::above;
@@ -34,6 +34,17 @@ pub enum Reading {
     BelowZero,
     // Refusal 8.
     OverRange,
+}
+
+// Document 01's refusal number of a reading, 0 if it is accepted.
+pub fn reading_refusal(r: Reading) -> u8
+    ensures { λ n. ⌜ n ≡ readingRefusal r ⌝ }
+{
+    match r {
+        Reading::Value(_) => 0,
+        Reading::BelowZero => 7,
+        Reading::OverRange => 8,
+    }
 }
 
 // The absolute reading of the signal v.

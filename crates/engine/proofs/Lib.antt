@@ -1,3 +1,4 @@
 pub mod Sizes
 pub mod Workable
+pub mod Numbers
 pub mod Bench

@@ -11,7 +11,17 @@ use Rattle.curve.specs.declared.Sheet.{Sheet}
 use Rattle.curve.specs.Limits.{sheetWithin}
 use Rattle.layout.specs.declared.SheetRecord.{SheetRecord}
 use Rattle.layout.specs.Records.{sheetAt}
+use Rattle.engine.specs.declared.Loaded.{Loaded}
 use Rattle.engine.specs.declared.Lookup.{Lookup}
+
+-- the paper's refusal number of a lookup, 0 if a sheet was found, and the sheet, none if refused
+abbrev pub lookupRefusal : Lookup → ℕ
+lookupRefusal (Lookup.Found s) = 0
+lookupRefusal (Lookup.Refused number) = number
+
+abbrev pub lookupSheet : Lookup → Loaded
+lookupSheet (Lookup.Found s) = Loaded.One s
+lookupSheet (Lookup.Refused number) = Loaded.Nothing
 
 -- how many sheets the bytes hold
 abbrev pub sheetsHeld : List ℕ → ℕ

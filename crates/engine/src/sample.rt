@@ -20,6 +20,7 @@ use curve::Air;
 use curve::Reading;
 use curve::Sheet;
 use curve::limits::air_within;
+use curve::reading_refusal;
 use curve::steps::dry;
 use reference::Found;
 use reference::reference_signal;
@@ -100,13 +101,13 @@ fn values(r: u64, s: Sheet, v: i64, a: Air) -> Sampled
     requires { ⌜ SheetOk s × AirOk a ⌝ }
     ensures { λ x. ⌜ x ≡ valuesOf r a (absoluteOf s v a) ⌝ }
 {
-    match curve::absolute(s, v, a) {
-        Reading::Value(c) => Sampled::Value {
-            r,
-            wet: c,
-            dry: dry(c, a),
-        },
-        Reading::BelowZero => Sampled::Refused(7),
-        Reading::OverRange => Sampled::Refused(8),
+    let reading = curve::absolute(s, v, a);
+    let Reading::Value(c) = reading else {
+        return Sampled::Refused(reading_refusal(reading));
+    };
+    Sampled::Value {
+        r,
+        wet: c,
+        dry: dry(c, a),
     }
 }

@@ -1,4 +1,6 @@
 -- `load` meets its contract: by what the lookup gives. Assumes nothing.
+use mathlib.Core.Path.{sym, _∙_}
+use Rattle.engine.proofs.Numbers.{lookup-number}
 use borrow.Author.Needs.{needs}
 use Rattle.engine.proofs.rules.load.Statement.{statement}
 use Rattle.engine.proofs.rules.load.Tie as tie
@@ -22,7 +24,10 @@ returns : tie.Need-returns
 returns c = rw (c .idle-with .ensures, ← c .before .before .before .before .find-sheet .ensures, c .before .before .s .given .1)
 
 returns-2 : tie.Need-returns-2
-returns-2 c = rw (c .refuse .ensures, ← c .before .before .before .before .find-sheet .ensures, c .before .before .number .given .1)
+returns-2 c =
+    let f = c .before .before .before .before .find-sheet .ensures in
+    let e = c .before .before .number .given .1 in
+    rw (c .refuse .ensures, ← f, e, lookup-number _ _ _ (sym f ∙ e))
 
 pub load-spec : {M : Type 1} → statement M
 load-spec =

@@ -1,10 +1,22 @@
--- `values` meets its contract, case by case; an accepted value is within 3,000,000,000. Assumes nothing.
-use mathlib.Core.Path.{_≡_, sym, _∙_}
+-- `values` meets its contract: a reading that is no value passes its number on, and an accepted value is within 3,000,000,000.
+-- Assumes nothing.
+use mathlib.Core.List.{[], _∷_}
+use mathlib.Core.Logic.{inl, inr}
+use mathlib.Core.Path.{_≡_, refl, sym, _∙_}
+use Prim.Native.Nat.{ℕ}
+use native.Mathlib.Omega.{arith}
 use mir.Facts.{toZ-ofZ}
 use mir.Syntax.{w64}
 use mir.Val.{SFits}
-use Rattle.curve.specs.Absolute.{absoluteOf}
+use types.Run.{OneOf}
+use denote.Enum.Declared.{tagOf}
+use Rattle.curve.specs.declared.Air.{Air}
+use Rattle.curve.specs.declared.Reading.{Reading}
+use Rattle.curve.specs.Absolute.{readingRefusal, absoluteOf}
 use Rattle.curve.proofs.Accepted.{accepted, value-size}
+use Rattle.curve.proofs.Reading as R
+use Rattle.engine.specs.declared.Sampled.{Sampled}
+use Rattle.engine.specs.Sample.{valuesOf}
 use borrow.Author.Needs.{needs}
 use Rattle.engine.proofs.sample.values.Statement.{statement}
 use Rattle.engine.proofs.sample.values.Tie as tie
@@ -12,46 +24,48 @@ use Rattle.engine.proofs.sample.values.Tie as tie
 reading-is : (c : tie.After-absolute) → c .absolute .result ≡ absoluteOf (c .before .args .s) (c .before .args .v) (c .before .args .a)
 reading-is c = let f = c .before .fits .v in simp toZ-ofZ at (c .absolute .ensures)
 
+-- a reading of the second or the third case has no value
+passed-on : (n : ℕ) (a : Air) (x : Reading) → OneOf (1 ∷ 2 ∷ []) (tagOf R.the-type x) → valuesOf n a x ≡ Sampled.Refused (readingRefusal x)
+passed-on n a (Reading.Value c) (inl e) = absurd (omega arith)
+passed-on n a (Reading.Value c) (inr e) = absurd (omega arith)
+passed-on n a Reading.BelowZero h = refl
+passed-on n a Reading.OverRange h = refl
+
 absolute-requires : tie.Need-absolute-requires
 absolute-requires c κs = search needs
 
-enum-known-c : tie.Need-enum-known-c
-enum-known-c c = search needs
+enum-known-reading : tie.Need-enum-known-reading
+enum-known-reading c = search needs
+
+reading-refusal-requires : tie.Need-reading-refusal-requires
+reading-refusal-requires c κs = search needs
+
+returns : tie.Need-returns
+returns c =
+    let d = c .before .before in
+    let s = d .before .args in
+    rw (c .reading-refusal .ensures, ← reading-is d) (sym (passed-on (s .r) (s .a) (d .absolute .result) (c .before .match .keys2)))
 
 dry-requires : tie.Need-dry-requires
 dry-requires c κs =
     let s = c .before .before .before .before in
-    let f : SFits w64 (c .before .c .given .0 .0) = search needs in
-    let h = accepted (s .args .s) (s .args .v) (s .args .a) _ (sym (reading-is (c .before .before .before)) ∙ c .before .c .given .1) in
+    let f : SFits w64 (c .before .reading .given .0 .0) = search needs in
+    let h = accepted (s .args .s) (s .args .v) (s .args .a) _ (sym (reading-is (c .before .before .before)) ∙ c .before .reading .given .1) in
     simp toZ-ofZ (value-size (s .args .s) (s .args .a) (s .pre .0) (s .pre .1) h, s .pre .1)
 
-enum-told : tie.Need-enum-told
-enum-told c = search needs
-
-enum-told-2 : tie.Need-enum-told-2
-enum-told-2 c = search needs
-
-returns : tie.Need-returns
-returns c =
-    let f : SFits w64 (c .before .before .c .given .0 .0) = search needs in
-    let g : SFits w64 (c .dry .result) = search needs in
-    simp toZ-ofZ (rw (sym (reading-is (c .before .before .before .before)) ∙ c .before .before .c .given .1, simp toZ-ofZ at (c .dry .ensures)))
-
 returns-2 : tie.Need-returns-2
-returns-2 c = rw (sym (reading-is (c .before .before)) ∙ c .enum-told .given .1)
-
-returns-3 : tie.Need-returns-3
-returns-3 c = rw (sym (reading-is (c .before .before)) ∙ c .enum-told2 .given .1)
+returns-2 c =
+    let f : SFits w64 (c .before .before .reading .given .0 .0) = search needs in
+    let g : SFits w64 (c .dry .result) = search needs in
+    simp toZ-ofZ (rw (sym (reading-is (c .before .before .before .before)) ∙ c .before .before .reading .given .1, simp toZ-ofZ at (c .dry .ensures)))
 
 pub values-spec : {M : Type 1} → statement M
 values-spec =
     tie.close
     (tie.spec
     absolute-requires
-    enum-known-c
-    dry-requires
-    enum-told
-    enum-told-2
+    enum-known-reading
+    reading-refusal-requires
     returns
-    returns-2
-    returns-3)
+    dry-requires
+    returns-2)

@@ -1,5 +1,6 @@
--- The starred cases hold: those of the crates below by their own theorems, the others by computation. Assumes nothing.
-use mathlib.Core.Path.{_≡_, refl, ap}
+-- The starred cases hold: what the searches find is taken from the crates below, the rest is computed. Assumes nothing.
+use mathlib.Core.List.{List, [], _∷_}
+use mathlib.Core.Path.{_≡_, refl, ap, _∙_}
 use native.Mathlib.Omega.{arith}
 use lib.IntN.{ℤ, pos, _+ℤ_, _-ℤ_, _*ℤ_}
 use Rattle.rounding.specs.Near.{nearest}
@@ -8,12 +9,17 @@ use Rattle.curve.specs.Limits.{airWithin}
 use Rattle.curve.specs.Curve.{reducedOf, slope2Of, slope1Of, cubicOf, moistOf, warmOf, wetOf, dryOf}
 use Rattle.curve.specs.Absolute.{absoluteOf}
 use Rattle.curve.proofs.Bench.{starred-readings}
-use Rattle.reference.specs.Signal.{signalOf}
+use Rattle.reference.specs.Signal.{signalOf, againstOf}
 use Rattle.reference.proofs.Bench.{starred-references}
+use Rattle.engine.specs.declared.State.{State}
+use Rattle.engine.specs.declared.Integration.{Integration}
+use Rattle.engine.specs.declared.Entry.{Entry}
 use Rattle.engine.specs.declared.Answer.{Answer}
+use Rattle.engine.specs.declared.Stepped.{Stepped}
 use Rattle.engine.specs.Sample.{sampledOf}
-use Rattle.engine.specs.Integration.{areaAnswer}
-use Rattle.engine.specs.Bench.{StarredCases}
+use Rattle.engine.specs.Integration.{emptyTally, countedOf, areaAnswer}
+use Rattle.engine.specs.Rules.{answered, withIntegration, spanBy, rules}
+use Rattle.engine.specs.Bench.{benchState, referenceState, sample, start, area, after, StarredCases}
 
 -- 2X less nothing, where n − 1 is 0
 one : (x : ℤ) → (pos 0 +ℤ x) *ℤ pos 2 -ℤ (x +ℤ x) *ℤ pos 0 ≡ x *ℤ pos 2
@@ -21,14 +27,63 @@ one x =
     let X = is-parts x in
     is-eq (is-minus (is-mul (is-add (is-nat 0) X) (is-nat 2)) (is-mul (is-add X X) (is-nat 0))) (is-mul X (is-nat 2)) (omega arith)
 
+-- a sample against the reference, whatever the integration, which counts it: R is what the crate below says was found
+abbrev counting : Integration → State
+counting i = withIntegration referenceState i
+
+module _ (i : Integration) where
+  low : rules [] (counting i) (sample (pos 0)) ≡ answered (Answer.Reading 40000000 (pos 1000000000) (pos 1000000000)) (counting (countedOf i (pos 1000000000)))
+  unfolding sampledOf airWithin absoluteOf signalOf againstOf nearest reducedOf slope2Of slope1Of cubicOf moistOf warmOf wetOf dryOf
+  low = rw (starred-references .reference)
+
+  high : rules [] (counting i) (sample (pos 10000000)) ≡ answered (Answer.Reading 40000000 (pos 1388160000) (pos 1388160000)) (counting (countedOf i (pos 1388160000)))
+  unfolding sampledOf airWithin absoluteOf signalOf againstOf nearest reducedOf slope2Of slope1Of cubicOf moistOf warmOf wetOf dryOf
+  high = rw (starred-references .reference)
+
+-- what is counted after a start and the first readings
+abbrev counted-1 : Integration
+counted-1 = countedOf (Integration.Running emptyTally) (pos 1000000000)
+
+abbrev counted-2 : Integration
+counted-2 = countedOf counted-1 (pos 1388160000)
+
+-- the area after some entries
+abbrev areaAfter : List Entry → Stepped → Answer
+areaAfter entries x = rules [] (after (x .state) entries) area .answer
+
+three : rules [] (after referenceState (start ∷ sample (pos 0) ∷ sample (pos 10000000) ∷ sample (pos 0) ∷ [])) area .answer ≡ Answer.Area 3 (pos 2776320000)
+unfolding areaAnswer
+three =
+    ap (areaAfter (sample (pos 10000000) ∷ sample (pos 0) ∷ [])) (low (Integration.Running emptyTally))
+    ∙ ap (areaAfter (sample (pos 0) ∷ [])) (high counted-1)
+    ∙ ap (areaAfter []) (low counted-2)
+
 pub starred-cases : StarredCases
-unfolding sampledOf areaAnswer airWithin absoluteOf signalOf nearest reducedOf slope2Of slope1Of cubicOf moistOf warmOf wetOf dryOf
+unfolding sampledOf areaAnswer airWithin absoluteOf signalOf againstOf nearest reducedOf slope2Of slope1Of cubicOf moistOf warmOf wetOf dryOf
 starred-cases =
     record {
       readings = starred-readings;
       references = starred-references;
+      v-0 = refl;
+      v-1 = refl;
+      v-minus-1 = refl;
+      v-39999999 = refl;
+      v-40000000 = refl;
+      p-81040 = refl;
+      t-30411 = refl;
+      e-2000 = refl;
       e-10001 = refl;
       e-10000 = refl;
-      three-readings = refl;
+      reference = refl;
+      raw-0 = low Integration.Idle;
+      raw-10000000 = high Integration.Idle;
+      raw-minus = rw (starred-references .reference);
+      k-10000000 = rw (starred-references .k-10000000);
+      span-800000 = ap (spanBy benchState) (starred-references .span-800000);
+      span-2000000 = ap (spanBy benchState) (starred-references .span-2000000);
+      span-beyond = rw (starred-references .span-beyond);
+      span-500000 = ap (spanBy benchState) (starred-references .span-500000);
+      span-below = rw (starred-references .span-below);
+      three-readings = three;
       one-reading = λ x. ap (Answer.Area 1) (one x);
     }

@@ -1,37 +1,110 @@
--- The starred cases of document 01, "Readings on the bench", as one fact about the rules: those of the crates below, and the ones
--- that belong to the engine. Assumes nothing.
-use mathlib.Core.List.{[]}
+-- The starred cases of document 01, "Readings on the bench", as one fact about the rules: each as what `rules` answers to an entry
+-- at a named state, and the state that it leaves. Assumes nothing.
+use mathlib.Core.List.{List, [], _∷_}
 use mathlib.Core.Path.{_≡_}
 use Prim.Native.Nat.{ℕ}
-use lib.IntN.{ℤ, pos, _*ℤ_}
+use lib.IntN.{ℤ, pos, negsuc, _*ℤ_}
 use Rattle.curve.specs.Bench.{benchSheet, StarredReadings}
-use Rattle.reference.specs.Bench.{StarredReferences}
+use Rattle.reference.specs.Bench.{smallSheet, StarredReferences}
 use Rattle.engine.specs.declared.Loaded.{Loaded}
 use Rattle.engine.specs.declared.Mode.{Mode}
 use Rattle.engine.specs.declared.Integration.{Integration}
 use Rattle.engine.specs.declared.State.{State}
+use Rattle.engine.specs.declared.Measurement.{Measurement}
 use Rattle.engine.specs.declared.Event.{Event}
 use Rattle.engine.specs.declared.Entry.{Entry}
 use Rattle.engine.specs.declared.Answer.{Answer}
 use Rattle.engine.specs.Answer.{refusalOf}
-use Rattle.engine.specs.Integration.{emptyTally, talliedOf, areaAnswer}
-use Rattle.engine.specs.Rules.{rules}
+use Rattle.engine.specs.Integration.{emptyTally, countedOf}
+use Rattle.engine.specs.Rules.{answered, withIntegration, idleWith, rules}
 
--- the bench sheet loaded, Q 0, S 1,000,000, absolute
+-- ---- states: Q 0, S 1,000,000 unless said, idle
+
+-- the bench sheet, absolute
 abbrev pub benchState : State
-benchState = record { loaded = Loaded.One benchSheet; q = pos 0; s = 1000000; mode = Mode.Absolute; integration = Integration.Idle }
+benchState = idleWith (Loaded.One benchSheet) (pos 0) 1000000 Mode.Absolute
 
--- V 40,456,000 at P 100,000, T 29,815 and some e
-abbrev pub dampSample : ℕ → Entry
-dampSample e = Entry.Known (Event.Sample (record { raw = pos 40456000; p = 100000; t = 29815; e = e }))
+-- the same with another span
+abbrev pub spanState : ℕ → State
+spanState s = idleWith (Loaded.One benchSheet) (pos 0) s Mode.Absolute
+
+-- against the reference 1,000,000,000 with e 0: the bench sheet, and the one with K 10,000,000
+abbrev pub referenceMode : Mode
+referenceMode = Mode.Against (record { c = 1000000000; e = 0 })
+
+abbrev pub referenceState : State
+referenceState = idleWith (Loaded.One benchSheet) (pos 0) 1000000 referenceMode
+
+abbrev pub smallState : State
+smallState = idleWith (Loaded.One smallSheet) (pos 0) 1000000 referenceMode
+
+-- ---- entries
+
+-- raw at P, T, e; with Q 0 and S 1,000,000 the signal V of an absolute reading is raw
+abbrev pub measuring : ℤ → ℕ → ℕ → ℕ → Measurement
+measuring raw p t e = record { raw = raw; p = p; t = t; e = e }
+
+abbrev pub sampleIn : ℤ → ℕ → ℕ → ℕ → Entry
+sampleIn raw p t e = Entry.Known (Event.Sample (measuring raw p t e))
+
+-- at P 101,300, T 29,815, e 0
+abbrev pub sample : ℤ → Entry
+sample raw = sampleIn raw 101300 29815 0
+
+abbrev pub spanTo : ℤ → Entry
+spanTo raw = Entry.Known (Event.Span (measuring raw 101300 29815 0) 1000000000)
+
+abbrev pub start : Entry
+start = Entry.Known Event.Start
+
+abbrev pub area : Entry
+area = Entry.Known Event.Area
+
+-- ---- what the rules give
+
+-- the entry gets the answer at the state, and leaves that state, or another; no case needs the list of sheets
+abbrev pub Answers : State → Entry → Answer → Type 0
+Answers st entry a = rules [] st entry ≡ answered a st
+
+abbrev pub AnswersLeaving : State → Entry → Answer → State → Type 0
+AnswersLeaving st entry a next = rules [] st entry ≡ answered a next
+
+-- the state after some entries
+abbrev pub after : State → List Entry → State
+after st [] = st
+after st (entry ∷ entries) = after (rules [] st entry .state) entries
 
 pub record StarredCases : Type 0 where
+  -- of the crates below, z among them
   pub readings : StarredReadings
   pub references : StarredReferences
-  -- e 10,001 here: refusal 6; 10,000 passes
-  pub e-10001 : refusalOf (rules [] benchState (dampSample 10001) .answer) ≡ 6
-  pub e-10000 : refusalOf (rules [] benchState (dampSample 10000) .answer) ≡ 0
-  -- wet 1,000,000,000, 1,388,160,000, 1,000,000,000; and one reading X
+  -- V 0, 1, −1, 39,999,999 and 40,000,000
+  pub v-0 : Answers benchState (sample (pos 0)) (Answer.Reading 0 (pos 0) (pos 0))
+  pub v-1 : Answers benchState (sample (pos 1)) (Answer.Reading 0 (pos 15) (pos 15))
+  pub v-minus-1 : Answers benchState (sample (negsuc 0)) (Answer.Refused 7)
+  pub v-39999999 : Answers benchState (sample (pos 39999999)) (Answer.Reading 0 (pos 999999967) (pos 999999967))
+  pub v-40000000 : Answers benchState (sample (pos 40000000)) (Answer.Reading 0 (pos 1000000000) (pos 1000000000))
+  -- P 81,040, V 32,000,000; T 30,411, V 40,000,000
+  pub p-81040 : Answers benchState (sampleIn (pos 32000000) 81040 29815 0) (Answer.Reading 0 (pos 1000000000) (pos 1000000000))
+  pub t-30411 : Answers benchState (sampleIn (pos 40000000) 101300 30411 0) (Answer.Reading 0 (pos 1019989938) (pos 1019989938))
+  -- P 100,000, V 40,456,000: e 2,000; e 10,001 is refusal 6, 10,000 passes
+  pub e-2000 : Answers benchState (sampleIn (pos 40456000) 100000 29815 2000) (Answer.Reading 0 (pos 1034193379) (pos 1055299366))
+  pub e-10001 : Answers benchState (sampleIn (pos 40456000) 100000 29815 10001) (Answer.Refused 6)
+  pub e-10000 : refusalOf (rules [] benchState (sampleIn (pos 40456000) 100000 29815 10000) .answer) ≡ 0
+  -- reference 1,000,000,000: R 40,000,000; raw 0, 10,000,000 and −10,000,000; with K 10,000,000 refusal 9
+  pub reference : AnswersLeaving benchState (Entry.Known (Event.Reference 1000000000 0)) Answer.Done referenceState
+  pub raw-0 : Answers referenceState (sample (pos 0)) (Answer.Reading 40000000 (pos 1000000000) (pos 1000000000))
+  pub raw-10000000 : Answers referenceState (sample (pos 10000000)) (Answer.Reading 40000000 (pos 1388160000) (pos 1388160000))
+  pub raw-minus : Answers referenceState (sample (negsuc 9999999)) (Answer.Reading 40000000 (pos 695040000) (pos 695040000))
+  pub k-10000000 : Answers smallState (sample (pos 0)) (Answer.Refused 9)
+  -- span to 1,000,000,000: the answer, and the S that it leaves; refusal 5 leaves the old one
+  pub span-800000 : AnswersLeaving benchState (spanTo (pos 50000000)) (Answer.Spanned 800000) (spanState 800000)
+  pub span-2000000 : AnswersLeaving benchState (spanTo (pos 20000000)) (Answer.Spanned 2000000) (spanState 2000000)
+  pub span-beyond : Answers benchState (spanTo (pos 19999999)) (Answer.Refused 5)
+  pub span-500000 : AnswersLeaving benchState (spanTo (pos 80000000)) (Answer.Spanned 500000) (spanState 500000)
+  pub span-below : Answers benchState (spanTo (pos 90000000)) (Answer.Refused 5)
+  -- a start, wet values 1,000,000,000, 1,388,160,000, 1,000,000,000, and the area; and one reading X, which gives 2X
   pub three-readings :
-      areaAnswer (talliedOf (talliedOf (talliedOf emptyTally (pos 1000000000)) (pos 1388160000)) (pos 1000000000)) ≡ Answer.Area 3 (pos 2776320000)
-  pub one-reading : (x : ℤ) → areaAnswer (talliedOf emptyTally x) ≡ Answer.Area 1 (x *ℤ pos 2)
+      rules [] (after referenceState (start ∷ sample (pos 0) ∷ sample (pos 10000000) ∷ sample (pos 0) ∷ [])) area .answer ≡ Answer.Area 3 (pos 2776320000)
+  pub one-reading :
+      (x : ℤ) → rules [] (withIntegration benchState (countedOf (Integration.Running emptyTally) x)) area .answer ≡ Answer.Area 1 (x *ℤ pos 2)

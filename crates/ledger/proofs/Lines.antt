@@ -257,7 +257,7 @@ module _ (sheets : List ℕ) (st : State) {xs : List Fraction} {b : Bool} (h : S
       go (Sampled.Value r wet dry) w =
           goes-on (Entry.Known (Event.Sample at)) (Answer.Reading r wet dry) (countedOf (st .integration) wet) (takenSeries xs b (exactValue g at r)) (takenRuns xs b) tt (w .holds)
           (keeps-counted k (w .near) (w .small)) (taken-is (exactValue g at r))
-      go (Sampled.Refused number) w = closes (Entry.Known (Event.Sample at)) number (w .0) (w .1) tt refl
+      go (Sampled.Refused number) w = rw (ne-eqb number 0 (λ z. omega (arith, w .0))) (closes (Entry.Known (Event.Sample at)) number (w .0) (w .1) tt refl)
 
   -- ---- 7 start
   start-good : Good sheets g (Entry.Known Event.Start) (startRule st)

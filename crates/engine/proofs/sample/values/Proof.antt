@@ -1,10 +1,9 @@
 -- `values` meets its contract: a reading that is no value passes its number on, and an accepted value is within 3,000,000,000.
 -- Assumes nothing.
 use mathlib.Core.List.{[], _∷_}
-use mathlib.Core.Logic.{inl, inr}
-use mathlib.Core.Path.{_≡_, refl, sym, _∙_}
+use mathlib.Core.Logic.{⊎-elim}
+use mathlib.Core.Path.{_≡_, sym, _∙_}
 use Prim.Native.Nat.{ℕ}
-use native.Mathlib.Omega.{arith}
 use mir.Facts.{toZ-ofZ}
 use mir.Syntax.{w64}
 use mir.Val.{SFits}
@@ -13,8 +12,8 @@ use denote.Enum.Declared.{tagOf}
 use Rattle.curve.specs.declared.Air.{Air}
 use Rattle.curve.specs.declared.Reading.{Reading}
 use Rattle.curve.specs.Absolute.{readingRefusal, absoluteOf}
-use Rattle.curve.proofs.Accepted.{accepted, value-size}
-use Rattle.curve.proofs.Reading as R
+use Rattle.curve.proofs.Accepted.{refused, accepted, value-size}
+use Rattle.curve.proofs.Reading.{the-type}
 use Rattle.engine.specs.declared.Sampled.{Sampled}
 use Rattle.engine.specs.Sample.{valuesOf}
 use borrow.Author.Needs.{needs}
@@ -24,12 +23,9 @@ use Rattle.engine.proofs.sample.values.Tie as tie
 reading-is : (c : tie.After-absolute) → c .absolute .result ≡ absoluteOf (c .before .args .s) (c .before .args .v) (c .before .args .a)
 reading-is c = let f = c .before .fits .v in simp toZ-ofZ at (c .absolute .ensures)
 
--- a reading of the second or the third case has no value
-passed-on : (n : ℕ) (a : Air) (x : Reading) → OneOf (1 ∷ 2 ∷ []) (tagOf R.the-type x) → valuesOf n a x ≡ Sampled.Refused (readingRefusal x)
-passed-on n a (Reading.Value c) (inl e) = absurd (omega arith)
-passed-on n a (Reading.Value c) (inr e) = absurd (omega arith)
-passed-on n a Reading.BelowZero h = refl
-passed-on n a Reading.OverRange h = refl
+-- what is no value is refused with its own number
+passed-on : (n : ℕ) (a : Air) (x : Reading) → OneOf (1 ∷ 2 ∷ []) (tagOf the-type x) → valuesOf n a x ≡ Sampled.Refused (readingRefusal x)
+passed-on n a x t = ⊎-elim (λ e. rw e) (λ e. rw e) (refused x t)
 
 absolute-requires : tie.Need-absolute-requires
 absolute-requires c κs = search needs

@@ -1,2 +1,3 @@
 pub mod Ledger
+pub mod Wets
 pub mod Claim

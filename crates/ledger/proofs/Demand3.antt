@@ -1,11 +1,12 @@
 -- Demand 3 holds, for every list of sheets and every list of entries of any length, from a fresh engine: one induction over the
--- list, the state and the ledger going together. And at every state that a list leaves the code's step goes by the rules. Assumes
+-- list, the state, the ledger and the wet values answered going together. And at every state that a list leaves the code's step goes by the rules. Assumes
 -- nothing.
 use mathlib.Core.Bool.{Bool, true}
 use mathlib.Core.List.{List, [], _∷_}
 use mathlib.Core.Path.{_≡_, refl}
 use Prim.Native.Nat.{ℕ}
 use native.Mathlib.Omega.{arith}
+use lib.IntN.{ℤ}
 use Rattle.exact.specs.Fraction.{Fraction}
 use Rattle.engine.specs.declared.State.{State}
 use Rattle.engine.specs.declared.Entry.{Entry}
@@ -23,10 +24,10 @@ by-rules : (sheets : List ℕ) (st : State) (entry : Entry) → workable st ≡ 
 unfolding stepOf
 by-rules sheets st entry e = rw e
 
-holds : (sheets : List ℕ) (st : State) {xs : List Fraction} {b : Bool} → Settings st → Keeps (st .integration) xs b → (entries : List Entry)
-    → Holds sheets st (ledgerAt st xs b) (transcript sheets st entries)
+holds : (sheets : List ℕ) (st : State) {ws : List ℤ} {xs : List Fraction} {b : Bool} → Settings st → Keeps (st .integration) ws xs b → (entries : List Entry)
+    → Holds sheets st (ledgerAt st xs b) ws (transcript sheets st entries)
 holds sheets st h k [] = tt
-holds sheets st {xs} {b} h k (entry ∷ entries) =
+holds sheets st h k (entry ∷ entries) =
     rw (by-rules sheets st entry (workable-is st h k))
     (let n = entry-good sheets st h k entry in
     let t = n .next in
@@ -36,7 +37,7 @@ pub demand-3 : (sheets : List ℕ) (entries : List Entry) → Demand3 sheets ent
 demand-3 sheets entries = holds sheets fresh fresh-settings idle entries
 
 -- every state that a list of events leaves from a fresh engine keeps to the limits
-left : (sheets : List ℕ) (st : State) {xs : List Fraction} {b : Bool} → Settings st → Keeps (st .integration) xs b → (entries : List Entry)
+left : (sheets : List ℕ) (st : State) {ws : List ℤ} {xs : List Fraction} {b : Bool} → Settings st → Keeps (st .integration) ws xs b → (entries : List Entry)
     → workable (leaves sheets st entries) ≡ true
 left sheets st h k [] = workable-is st h k
 left sheets st h k (entry ∷ entries) =

@@ -2,3 +2,4 @@ pub mod Tallies
 pub mod Samples
 pub mod Lines
 pub mod Demand3
+pub mod Example

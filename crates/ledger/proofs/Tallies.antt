@@ -1,7 +1,8 @@
--- The tally of a list of wet values, and the integration beside the ledger's series: each wet value is within 1,800 of the exact
--- value in its place. Counting and closing keep them together. Assumes nothing.
+-- The tally of a list of wet values, and the integration beside the wet values answered since the start and the ledger's series:
+-- it is their tally, and each is within 1,800 of the exact value in its place. Counting and closing keep them together. Assumes
+-- nothing.
 use mathlib.Core.Bool.{Bool, true, false, not, cond}
-use mathlib.Core.List.{List, [], _∷_, _++_, foldl, append-nil, append-assoc}
+use mathlib.Core.List.{List, [], _∷_, _++_}
 use mathlib.Core.Path.{_≡_, refl, sym, ap, _∙_}
 use Prim.Native.Nat.{ℕ, zero, suc, _+_, _*_, _-_, _≤_, _<_}
 use native.Mathlib.Nat.{le-of-lt}
@@ -13,12 +14,11 @@ use lib.ListN.{length, getD, length-append}
 use Rattle.rounding.proofs.Integers.{abs-add}
 use Rattle.exact.specs.Fraction.{Fraction, LiesWithin}
 use Rattle.exact.specs.Bounds.{againstBound}
-use Rattle.exact.specs.Area.{firstOf, lastOf, sumOf, areaOf, EachWithin, empty}
+use Rattle.exact.specs.Area.{firstOf, lastOf, sumOf, EachWithin, empty}
 use Rattle.exact.proofs.Area.{same-length, each-append}
 use Rattle.engine.specs.declared.Tally.{Tally}
 use Rattle.engine.specs.declared.Integration.{Integration}
-use Rattle.engine.specs.declared.Answer.{Answer}
-use Rattle.engine.specs.Integration.{emptyTally, talliedOf, countedOf, closedOf, areaAnswer}
+use Rattle.engine.specs.Integration.{emptyTally, talliedOf, countedOf, closedOf}
 use Rattle.engine.specs.Step.{integrationWithin}
 
 -- ---- the tally of a list
@@ -47,15 +47,6 @@ tallied ws w =
     let l : length ws + 1 ≡ length (ws ++ (w ∷ [])) = omega (arith, length-append ws (w ∷ [])) in
     rw (first-append ws w, l, sym (sum-append ws w)) (ap (λ (z : ℤ). record { n = length (ws ++ (w ∷ [])); first = firstOf (pos 0) (ws ++ (w ∷ [])); last = z; sum = sumOf (ws ++ (w ∷ [])) }) (sym (last-append ws w)))
 
--- counting a list one by one, from none, gives its tally; and the area of that is the area rule over the list
-count-all : (ws vs : List ℤ) → foldl talliedOf (tallyOf ws) vs ≡ tallyOf (ws ++ vs)
-count-all ws [] = ap tallyOf (sym (append-nil ws))
-count-all ws (v ∷ vs) = ap (λ (t : Tally). foldl talliedOf t vs) (tallied ws v) ∙ count-all (ws ++ (v ∷ [])) vs ∙ ap tallyOf (append-assoc ws (v ∷ []) vs)
-
-pub area-of-list : (w : ℤ) (ws : List ℤ) → areaAnswer (foldl talliedOf emptyTally (w ∷ ws)) ≡ Answer.Area (length (w ∷ ws)) (areaOf (w ∷ ws))
-unfolding areaAnswer areaOf
-area-of-list w ws = ap areaAnswer (count-all [] (w ∷ ws)) ∙ rw (eqb·suc-zero (length ws))
-
 -- ---- wet values of at most 3,000,000,000
 pub data Small : List ℤ → Type 0 where
   none : Small []
@@ -74,41 +65,41 @@ small-sum : {ws : List ℤ} → Small ws → natAbs (sumOf ws) ≤ length ws * 3
 small-sum none = omega arith
 small-sum (more {w} {ws} h r) = omega (arith, abs-add w (sumOf ws), small-sum r)
 
--- ---- the integration beside the series
-pub data Keeps : Integration → List Fraction → Bool → Type 0 where
-  idle : Keeps Integration.Idle [] false
-  running : (ws : List ℤ) {xs : List Fraction} → EachWithin ws xs → Small ws → length ws < 600000 → Keeps (Integration.Running (tallyOf ws)) xs true
-  closed : (ws : List ℤ) {xs : List Fraction} → EachWithin ws xs → Small ws → length ws ≤ 600000 → Keeps (Integration.Closed (tallyOf ws)) xs false
+-- ---- the integration beside the wet values answered and the series
+pub data Keeps : Integration → List ℤ → List Fraction → Bool → Type 0 where
+  idle : Keeps Integration.Idle [] [] false
+  running : {ws : List ℤ} {xs : List Fraction} → EachWithin ws xs → Small ws → length ws < 600000 → Keeps (Integration.Running (tallyOf ws)) ws xs true
+  closed : {ws : List ℤ} {xs : List Fraction} → EachWithin ws xs → Small ws → length ws ≤ 600000 → Keeps (Integration.Closed (tallyOf ws)) ws xs false
 
-pub started : Keeps (Integration.Running emptyTally) [] true
-started = running [] empty none (omega arith)
+pub started : Keeps (Integration.Running emptyTally) [] [] true
+started = running empty none (omega arith)
 
-pub keeps-closed : {i : Integration} {xs : List Fraction} {b : Bool} → Keeps i xs b → Keeps (closedOf i) xs false
+pub keeps-closed : {i : Integration} {ws : List ℤ} {xs : List Fraction} {b : Bool} → Keeps i ws xs b → Keeps (closedOf i) ws xs false
 keeps-closed idle = idle
-keeps-closed (running ws e r l) = closed ws e r (le-of-lt l)
-keeps-closed (closed ws e r l) = closed ws e r l
+keeps-closed (running e r l) = closed e r (le-of-lt l)
+keeps-closed (closed e r l) = closed e r l
 
-module _ (ws : List ℤ) {xs : List Fraction} (e : EachWithin ws xs) (r : Small ws) where
+module _ {ws : List ℤ} {xs : List Fraction} (e : EachWithin ws xs) (r : Small ws) where
   after : (t : Bool) → (t ≡ false → length ws < 600000) → length ws ≤ 600000
-      → Keeps (cond t (Integration.Closed (tallyOf ws)) (Integration.Running (tallyOf ws))) xs (not t)
-  after true h l = closed ws e r l
-  after false h l = running ws e r (h refl)
+      → Keeps (cond t (Integration.Closed (tallyOf ws)) (Integration.Running (tallyOf ws))) ws xs (not t)
+  after true h l = closed e r l
+  after false h l = running e r (h refl)
 
--- what a series becomes that takes a value, running or not
-abbrev pub takenSeries : List Fraction → Bool → Fraction → List Fraction
-takenSeries xs b x = cond b (xs ++ (x ∷ [])) xs
+-- what a list becomes that takes a value, the series running or not
+abbrev pub takenAtEnd : {A : Type 0} → List A → Bool → A → List A
+takenAtEnd xs b x = cond b (xs ++ (x ∷ [])) xs
 
 abbrev pub takenRuns : List Fraction → Bool → Bool
 takenRuns xs b = cond b (not (eqb (length xs + 1) 600000)) false
 
-pub keeps-counted : {i : Integration} {xs : List Fraction} {b : Bool} {w : ℤ} {x : Fraction} → Keeps i xs b → LiesWithin w againstBound x → natAbs w ≤ 3000000000
-    → Keeps (countedOf i w) (takenSeries xs b x) (takenRuns xs b)
+pub keeps-counted : {i : Integration} {ws : List ℤ} {xs : List Fraction} {b : Bool} {w : ℤ} {x : Fraction} → Keeps i ws xs b → LiesWithin w againstBound x → natAbs w ≤ 3000000000
+    → Keeps (countedOf i w) (takenAtEnd ws b w) (takenAtEnd xs b x) (takenRuns xs b)
 keeps-counted idle n h = idle
-keeps-counted (closed ws e r l) n h = closed ws e r l
-keeps-counted {w = w} (running ws e r l) n h =
+keeps-counted (closed e r l) n h = closed e r l
+keeps-counted {ws = ws} {w = w} (running e r l) n h =
     let m : length (ws ++ (w ∷ [])) ≡ length ws + 1 = length-append ws (w ∷ []) in
     rw (tallied ws w, ← same-length e)
-    (after (ws ++ (w ∷ [])) (each-append e n) (small-append w r h) (eqb (length ws + 1) 600000)
+    (after (each-append e n) (small-append w r h) (eqb (length ws + 1) 600000)
     (λ t. let f : length ws + 1 ≡ 600000 → ⊥ = eqb-false _ _ t in omega arith) (omega arith))
 
 -- ---- such an integration is within what the code can work with
@@ -116,7 +107,7 @@ tally-within : (ws : List ℤ) → Small ws → length ws ≤ 600000 → integra
 tally-within ws r l =
     rw (le-leb (length ws) 600000 l, le-leb _ 3000000000 (small-at r 0), le-leb _ 3000000000 (small-at r (length ws - 1)), le-leb (natAbs (sumOf ws)) 1800000000000000 (omega (arith, small-sum r)))
 
-pub keeps-within : {i : Integration} {xs : List Fraction} {b : Bool} → Keeps i xs b → integrationWithin i ≡ true
+pub keeps-within : {i : Integration} {ws : List ℤ} {xs : List Fraction} {b : Bool} → Keeps i ws xs b → integrationWithin i ≡ true
 keeps-within idle = refl
-keeps-within (running ws e r l) = rw (tally-within ws r (le-of-lt l), lt-ltb (length ws) 600000 l)
-keeps-within (closed ws e r l) = tally-within ws r l
+keeps-within {ws = ws} (running e r l) = rw (tally-within ws r (le-of-lt l), lt-ltb (length ws) 600000 l)
+keeps-within {ws = ws} (closed e r l) = tally-within ws r l

@@ -1,5 +1,5 @@
 -- Demand 3: what holds at each event of every list, refused ones included, from a fresh engine, with the exact ledger going
--- through the same list. Assumes nothing.
+-- through the same list, and beside it the wet values answered since the start. Assumes nothing.
 use mathlib.Core.Bool.{true}
 use Prim.Native.Nat.{ℕ, suc, _≤_}
 use mathlib.Core.List.{List, [], _∷_}
@@ -9,7 +9,7 @@ use lib.ListN.{length}
 use Rattle.curve.specs.declared.Sheet.{Sheet}
 use Rattle.exact.specs.Fraction.{whole, LiesWithin, AtLeast, LessThan}
 use Rattle.exact.specs.Equation.{exactWet, exactDry}
-use Rattle.exact.specs.Area.{exactArea}
+use Rattle.exact.specs.Area.{areaOf, exactArea}
 use Rattle.exact.specs.Bounds.{absoluteBound, againstBound, dryBound, referenceBound, areaBound}
 use Rattle.engine.specs.declared.Loaded.{Loaded}
 use Rattle.engine.specs.declared.Cylinder.{Cylinder}
@@ -24,6 +24,7 @@ use Rattle.engine.specs.Sample.{airOf, referenceAir}
 use Rattle.engine.specs.Rules.{rules, fresh, answered}
 use Rattle.engine.specs.Step.{workable, stepOf}
 use Rattle.ledger.specs.Ledger.{Ledger, freshLedger, exactValue, ledgerStep}
+use Rattle.ledger.specs.Wets.{wetsStep}
 
 -- ---- the transcript of a list: at each event the state before, the entry, the answer and the state after
 
@@ -47,7 +48,8 @@ leaves sheets st (entry ∷ entries) = leaves sheets (stepOf sheets st entry .st
 
 -- ---- what holds of an answer
 
--- a refused answer has a number of the list, 1 to 11, and its fields are zero
+-- a refused answer has a number of the list, 1 to 11, and its fields are zero. What this adds is the range, so that 0 stands for
+-- accepted answers alone: the fields are zero by `mOf`, `xOf` and `yOf`, whatever the number, and `by-rules` below fixes which it is
 abbrev pub RefusalHolds : Answer → Type 0
 RefusalHolds (Answer.Refused number) =
     (1 ≤ number) × (number ≤ 11) × (mOf (Answer.Refused number) ≡ 0) × (xOf (Answer.Refused number) ≡ pos 0) × (yOf (Answer.Refused number) ≡ pos 0)
@@ -79,13 +81,16 @@ pub record SampleHolds (g : Ledger) (at : Measurement) (r : ℕ) (wet dry : ℤ)
   pub dry-holds : LiesWithin dry dryBound (exactDry (exactValue g at r) (airOf at))
   pub signal-holds : SignalHolds (g .sheet) (g .mode) at r
 
--- an accepted area: the ledger's n, and beside the ledger's area
-pub record AreaHolds (g : Ledger) (n : ℕ) (area : ℤ) : Type 0 where
+-- an accepted area: the ledger's n, the area rule over the wet values answered since the start, which are n as well, and beside
+-- the ledger's area
+pub record AreaHolds (g : Ledger) (ws : List ℤ) (n : ℕ) (area : ℤ) : Type 0 where
   pub count : n ≡ length (g .series)
+  pub wet-count : n ≡ length ws
+  pub wet-area : area ≡ areaOf ws
   pub distance : LiesWithin area (areaBound n) (exactArea (g .series))
 
--- by the entry and its answer, the ledger being the one before the event: a sample is answered by a reading or refused, an area
--- by an area or refused
+-- by the entry and its answer, the ledger and the wet values being those before the event: a sample is answered by a reading or
+-- refused, an area by an area or refused
 abbrev pub SampleAnswered : Ledger → Measurement → Answer → Type 0
 SampleAnswered g at (Answer.Reading r wet dry) = SampleHolds g at r wet dry
 SampleAnswered g at (Answer.Refused number) = Unit
@@ -94,42 +99,44 @@ SampleAnswered g at (Answer.Zeroed q) = ⊥
 SampleAnswered g at (Answer.Spanned s) = ⊥
 SampleAnswered g at (Answer.Area n area) = ⊥
 
-abbrev pub AreaAnswered : Ledger → Answer → Type 0
-AreaAnswered g (Answer.Area n area) = AreaHolds g n area
-AreaAnswered g (Answer.Refused number) = Unit
-AreaAnswered g Answer.Done = ⊥
-AreaAnswered g (Answer.Zeroed q) = ⊥
-AreaAnswered g (Answer.Spanned s) = ⊥
-AreaAnswered g (Answer.Reading r wet dry) = ⊥
+abbrev pub AreaAnswered : Ledger → List ℤ → Answer → Type 0
+AreaAnswered g ws (Answer.Area n area) = AreaHolds g ws n area
+AreaAnswered g ws (Answer.Refused number) = Unit
+AreaAnswered g ws Answer.Done = ⊥
+AreaAnswered g ws (Answer.Zeroed q) = ⊥
+AreaAnswered g ws (Answer.Spanned s) = ⊥
+AreaAnswered g ws (Answer.Reading r wet dry) = ⊥
 
 -- the ledger has exact values to compare with samples and areas alone; a malformed entry is refused with 11
-abbrev pub LedgerHolds : Ledger → Entry → Answer → Type 0
-LedgerHolds g (Entry.Known (Event.Sample at)) a = SampleAnswered g at a
-LedgerHolds g (Entry.Known Event.Area) a = AreaAnswered g a
-LedgerHolds g (Entry.Known (Event.Load index)) a = Unit
-LedgerHolds g (Entry.Known (Event.Zero raw)) a = Unit
-LedgerHolds g (Entry.Known (Event.Span at cylinder)) a = Unit
-LedgerHolds g (Entry.Known (Event.Reference cylinder e)) a = Unit
-LedgerHolds g (Entry.Known Event.Absolute) a = Unit
-LedgerHolds g (Entry.Known Event.Start) a = Unit
-LedgerHolds g (Entry.Known Event.Stop) a = Unit
-LedgerHolds g (Entry.Malformed kind) a = refusalOf a ≡ 11
+abbrev pub LedgerHolds : Ledger → List ℤ → Entry → Answer → Type 0
+LedgerHolds g ws (Entry.Known (Event.Sample at)) a = SampleAnswered g at a
+LedgerHolds g ws (Entry.Known Event.Area) a = AreaAnswered g ws a
+LedgerHolds g ws (Entry.Known (Event.Load index)) a = Unit
+LedgerHolds g ws (Entry.Known (Event.Zero raw)) a = Unit
+LedgerHolds g ws (Entry.Known (Event.Span at cylinder)) a = Unit
+LedgerHolds g ws (Entry.Known (Event.Reference cylinder e)) a = Unit
+LedgerHolds g ws (Entry.Known Event.Absolute) a = Unit
+LedgerHolds g ws (Entry.Known Event.Start) a = Unit
+LedgerHolds g ws (Entry.Known Event.Stop) a = Unit
+LedgerHolds g ws (Entry.Malformed kind) a = refusalOf a ≡ 11
 
 -- demands 1 and 2 at the event: answer and state after are the rules' at the state before; and the ledger's facts
-pub record LineHolds (sheets : List ℕ) (g : Ledger) (l : Line) : Type 0 where
+pub record LineHolds (sheets : List ℕ) (g : Ledger) (ws : List ℤ) (l : Line) : Type 0 where
   pub by-rules : answered (l .answer) (l .after) ≡ rules sheets (l .before) (l .entry)
   pub refusal : RefusalHolds (l .answer)
-  pub by-ledger : LedgerHolds g (l .entry) (l .answer)
+  pub by-ledger : LedgerHolds g ws (l .entry) (l .answer)
 
--- ---- the claim: at each event of the list, which gets the state that the last one left, the ledger moving on beside it
-abbrev pub Holds : List ℕ → State → Ledger → List Line → Type 0
-Holds sheets st g [] = Unit
-Holds sheets st g (l ∷ ls) =
-    (l .before ≡ st) × LineHolds sheets g l × Holds sheets (l .after) (ledgerStep sheets g (l .entry) (l .answer)) ls
+-- ---- the claim: at each event of the list, which gets the state that the last one left, the ledger and the wet values moving on
+-- beside it
+abbrev pub Holds : List ℕ → State → Ledger → List ℤ → List Line → Type 0
+Holds sheets st g ws [] = Unit
+Holds sheets st g ws (l ∷ ls) =
+    (l .before ≡ st) × LineHolds sheets g ws l
+    × Holds sheets (l .after) (ledgerStep sheets g (l .entry) (l .answer)) (wetsStep (g .runs) ws (l .entry) (l .answer)) ls
 
--- demand 3, for one list of sheets and one list of events, from a fresh engine
+-- demand 3, for one list of sheets and one list of events, from a fresh engine; no wet value is answered yet
 abbrev pub Demand3 : List ℕ → List Entry → Type 0
-Demand3 sheets entries = Holds sheets fresh freshLedger (transcript sheets fresh entries)
+Demand3 sheets entries = Holds sheets fresh freshLedger [] (transcript sheets fresh entries)
 
 -- the state that a list leaves: its numbers keep to the limits within which every sum fits, and the code's step goes by the
 -- rules there, whatever comes next

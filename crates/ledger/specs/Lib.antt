@@ -1,2 +1,4 @@
 pub mod Ledger
+pub mod Wets
 pub mod Claim
+pub mod Example

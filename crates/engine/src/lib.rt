@@ -134,8 +134,8 @@ pub fn fresh_state() -> State
     }
 }
 
-// One step, over the bytes of the list of sheets: the answer and the next state. A record that no list of events leaves may
-// hold numbers too large for the arithmetic: it is tested once, here, refused with 1 and kept.
+// One step, over the bytes of the list of sheets: the answer and the next state. A record may hold numbers too large for the
+// arithmetic, which no list of events leaves: it is tested once, here, refused with 1 and kept.
 pub fn step(sheets: &[u8], state: State, entry: Entry) -> Stepped
     ensures { λ r. ⌜ r ≡ stepOf (now (sheets .entry)) state entry ⌝ }
 {

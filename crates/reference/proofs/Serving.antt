@@ -27,7 +27,7 @@ use Rattle.reference.specs.Signal.{signalOf}
 use Rattle.reference.specs.Search.{serves, readingUnder}
 use Rattle.reference.specs.Sought.{SoughtOk, soughtReading}
 
--- a reading that is over range, or reads the cylinder or more, is not passed by one that is too low
+-- after a reading that is over range comes none that serves
 over-below : {q r : Reading} (cylinder : ℕ) → NotAbove q r → q ≡ OverRange → serves cylinder r ≡ false
 over-below cylinder from-below e = absurd (no e)
   where
@@ -39,6 +39,7 @@ over-below cylinder (values {c} l) e = absurd (no c e)
     no c e = let z : _≡_ {A = ℕ} 0 1 = cc in omega arith
 over-below cylinder to-over e = refl
 
+-- before an accepted reading that is below the cylinder comes none that serves
 low-above : {q r : Reading} (cylinder : ℕ) {c : ℤ} → NotAbove q r → r ≡ Value c → leZ (pos cylinder) c ≡ false → serves cylinder q ≡ false
 low-above cylinder from-below e l = refl
 low-above cylinder {c} (values {c = b} {d} h) e l =

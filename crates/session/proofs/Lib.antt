@@ -3,3 +3,4 @@ pub mod Turn
 pub mod Outcome
 pub mod Printing
 pub mod Transcript
+pub mod Claim

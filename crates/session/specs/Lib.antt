@@ -1,3 +1,4 @@
 pub mod Run
 pub mod Text
 pub mod Transcript
+pub mod Claim

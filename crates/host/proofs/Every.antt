@@ -1,12 +1,12 @@
 -- What the host gets of every line, from the bytes of a run's output. The line's answer stands there and is read as it was written
 -- (`line-read` of session); its numbers are below 2^53 in size, and its case is one that its kind byte can get. Assumes nothing.
-use Prim.Native.Nat.{ℕ, _*_, _^_, _≤_}
+use Prim.Native.Nat.{ℕ, _*_, _^_, _≤_, _<_}
 use native.Mathlib.Omega.{arith}
 use mathlib.Core.Bool.{true}
 use mathlib.Core.List.{List}
 use mathlib.Core.Path.{_≡_, ap}
 use borrow.Author.Tests.{lt-ltb, ne-eqb, le-leb}
-use lib.IntN.{pos, natAbs}
+use lib.IntN.{ℤ, pos, natAbs}
 use lib.ListN.{length, take, drop, length-take, length-drop}
 use lib.Seq.{take-take}
 use Rattle.layout.specs.Fields.{AreBytes}
@@ -19,18 +19,21 @@ use Rattle.session.specs.Run.{recordOf, outputOf}
 use Rattle.session.specs.Claim.{LineIs}
 use Rattle.session.proofs.Fits.{Fit}
 use Rattle.session.proofs.Claim.{line-below, line-fit, line-read, length-output}
-use Rattle.host.specs.Doubles.{hostSample, hostArea, hostSampleIn, hostAreaIn}
+use Rattle.host.specs.Doubles.{belowLimit, hostSample, hostArea, hostSampleIn, hostAreaIn}
 use Rattle.host.specs.Every.{GivenAsSample, GivenAsArea, EveryReading, EveryArea}
 use Rattle.host.proofs.Laws.{is-whole}
 
 -- ---- by the case of the answer
+
+within-limit : (z : ℤ) → natAbs z < 2 ^ 53 → belowLimit z ≡ true
+within-limit z h = lt-ltb (natAbs z) _ (omega arith)
 
 of-sample : (kind : ℕ) (a : Answer) → Fit kind a → GivenAsSample a (hostSample (recordOf kind a))
 unfolding hostSample
 of-sample kind (Answer.Reading r wet dry) f =
     let s = f .small in
     record {
-      is = rw (f .suits, lt-ltb (natAbs wet) (2 ^ 53) (s .x), lt-ltb (natAbs dry) (2 ^ 53) (s .y));
+      is = rw (f .suits, within-limit wet (s .x), within-limit dry (s .y));
       wet-exact = is-whole wet (s .x);
       dry-exact = is-whole dry (s .y);
       signal-exact = is-whole (pos r) (omega (arith, s .m));
@@ -45,7 +48,7 @@ of-area : (kind : ℕ) (a : Answer) → Fit kind a → GivenAsArea a (hostArea (
 unfolding hostArea
 of-area kind (Answer.Area n area) f =
     let s = f .small in
-    record { is = rw (f .suits, lt-ltb (natAbs area) (2 ^ 53) (s .x)); exact = is-whole area (s .x) }
+    record { is = rw (f .suits, within-limit area (s .x)); exact = is-whole area (s .x) }
 of-area kind (Answer.Refused number) f = rw (ne-eqb number 0 (λ e. omega (arith, f .suits .0)))
 of-area kind Answer.Done f = rw (f .suits .1)
 of-area kind (Answer.Zeroed q) f = rw (f .suits)

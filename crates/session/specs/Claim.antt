@@ -15,7 +15,8 @@ use Rattle.ledger.specs.Claim.{Line, transcript, Demand3}
 use Rattle.format.specs.Header.{sheetCount, eventCount, wellFormed, sheetsOf}
 use Rattle.format.specs.Entries.{entryOf}
 use Rattle.session.specs.Run.{recordOf, statusOf, writtenOf, outputOf}
-use Rattle.session.specs.Transcript.{entriesOf}
+use Rattle.session.specs.Text.{linesFrom, linesOf}
+use Rattle.session.specs.Transcript.{entriesOf, recordsOf}
 
 -- the transcript of a file: the engine's over the file's entries, under the file's sheets, from a fresh engine
 abbrev pub transcriptOf : List ℕ → List Line
@@ -68,3 +69,7 @@ abbrev pub EveryFile : Type 0
 EveryFile =
     (file old : List ℕ) → AreBytes file
     → FileHolds file old (statusOf file (length old)) (writtenOf file (length old)) (outputOf file old)
+
+-- and the lines, printed or put into a buffer, are those of the same answers, each with its entry's kind byte, ordinals from 1
+abbrev pub EveryText : Type 0
+EveryText = (file : List ℕ) → linesOf file ≡ linesFrom 1 (recordsOf (transcriptOf file))

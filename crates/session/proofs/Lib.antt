@@ -4,3 +4,4 @@ pub mod Outcome
 pub mod Printing
 pub mod Transcript
 pub mod Claim
+pub mod Example

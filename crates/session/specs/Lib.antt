@@ -2,3 +2,4 @@ pub mod Run
 pub mod Text
 pub mod Transcript
 pub mod Claim
+pub mod Example

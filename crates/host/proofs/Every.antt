@@ -1,75 +1,84 @@
--- Every accepted sample of the engine is a reading for the host, and every accepted area an area, since their numbers are below
--- 2^53 in size and are read from the bytes as they were written. Assumes nothing.
-use Prim.Native.Nat.{ℕ, _^_, _<_, _≤_}
+-- What the host gets of every line, from the bytes of a run's output. The line's answer stands there and is read as it was written
+-- (`line-read` of session); its numbers are below 2^53 in size, and its case is one that its kind byte can get. Assumes nothing.
+use Prim.Native.Nat.{ℕ, _*_, _^_, _≤_, _<_}
 use native.Mathlib.Omega.{arith}
-use mathlib.Core.List.{List, _++_}
+use mathlib.Core.Bool.{true}
+use mathlib.Core.List.{List}
 use mathlib.Core.Path.{_≡_, ap}
-use borrow.Author.Tests.{lt-ltb, eq-eqb, le-leb}
-use lib.IntN.{ℤ, pos, negsuc, natAbs}
-use lib.Signed.{mag}
-use lib.ListN.{length, length-append}
-use lib.Seq.{take-at}
-use Rattle.layout.specs.declared.AnswerRecord.{AnswerRecord}
-use Rattle.layout.specs.Records.{answerBytes, answerAt, AnswerFits}
-use Rattle.layout.proofs.RoundTrips.{length-answer, answer-read}
+use borrow.Author.Tests.{lt-ltb, ne-eqb, le-leb}
+use lib.IntN.{ℤ, pos, natAbs}
+use lib.ListN.{length, take, drop, length-take, length-drop}
+use lib.Seq.{take-take}
+use Rattle.layout.specs.Fields.{AreBytes}
+use Rattle.layout.specs.Records.{answerAt}
 use Rattle.engine.specs.declared.Answer.{Answer}
-use Rattle.engine.specs.Answer.{refusalOf, xOf, yOf}
-use Rattle.format.specs.Entries.{entryOf}
-use Rattle.session.specs.Run.{recordOf}
-use Rattle.session.specs.Transcript.{Small}
-use Rattle.session.proofs.Fits.{fits}
-use Rattle.host.specs.declared.HostAnswer.{HostAnswer}
-use Rattle.host.specs.Doubles.{doubleOf, doublesOf, hostSample, hostArea, hostSampleIn, hostAreaIn}
-use Rattle.host.specs.Every.{answerTo, Given, EveryReading, EveryArea}
+use Rattle.engine.specs.Answer.{kindOf}
+use Rattle.format.specs.Header.{eventCount, wellFormed}
+use Rattle.ledger.specs.Claim.{Line}
+use Rattle.session.specs.Run.{recordOf, outputOf}
+use Rattle.session.specs.Claim.{LineIs}
+use Rattle.session.proofs.Fits.{Fit}
+use Rattle.session.proofs.Claim.{line-below, line-fit, line-read, length-output}
+use Rattle.host.specs.Doubles.{belowLimit, hostSample, hostArea, hostSampleIn, hostAreaIn}
+use Rattle.host.specs.Every.{GivenAsSample, GivenAsArea, EveryReading, EveryArea}
 use Rattle.host.proofs.Laws.{is-whole}
 
-module _ (a : AnswerRecord) (x : natAbs (a .x) < 2 ^ 53) (accepted : a .refusal ≡ 0) where
-  reading : natAbs (a .y) < 2 ^ 53 → a .m < 4294967296 → a .kind ≡ 6 → Given (hostSample a) (HostAnswer.Reading (doublesOf a)) a
-  unfolding hostSample
-  reading y m kind =
-      record {
-        is = rw (eq-eqb (a .refusal) 0 accepted, eq-eqb (a .kind) 6 kind, lt-ltb (natAbs (a .x)) (2 ^ 53) x, lt-ltb (natAbs (a .y)) (2 ^ 53) y);
-        exact = (is-whole (a .x) x, is-whole (a .y) y, is-whole (pos (a .m)) (omega arith));
-      }
+-- ---- by the case of the answer
 
-  area : a .kind ≡ 9 → Given (hostArea a) (HostAnswer.Area (doubleOf (a .x))) a
-  unfolding hostArea
-  area kind =
-      record {
-        is = rw (eq-eqb (a .refusal) 0 accepted, eq-eqb (a .kind) 9 kind, lt-ltb (natAbs (a .x)) (2 ^ 53) x);
-        exact = is-whole (a .x) x;
-      }
+within-limit : (z : ℤ) → natAbs z < 2 ^ 53 → belowLimit z ≡ true
+within-limit z h = lt-ltb (natAbs z) _ (omega arith)
 
--- ---- through the bytes
-size-fits : (z : ℤ) → natAbs z < 2 ^ 53 → mag z < 2 ^ 63
-size-fits (pos n) h = omega arith
-size-fits (negsuc n) h = omega arith
+of-sample : (kind : ℕ) (a : Answer) → Fit kind a → GivenAsSample a (hostSample (recordOf kind a))
+unfolding hostSample
+of-sample kind (Answer.Reading r wet dry) f =
+    let s = f .small in
+    record {
+      is = rw (f .suits, within-limit wet (s .x), within-limit dry (s .y));
+      wet-exact = is-whole wet (s .x);
+      dry-exact = is-whole dry (s .y);
+      signal-exact = is-whole (pos r) (omega (arith, s .m));
+    }
+of-sample kind (Answer.Refused number) f = rw (ne-eqb number 0 (λ e. omega (arith, f .suits .0)))
+of-sample kind Answer.Done f = rw (f .suits .0)
+of-sample kind (Answer.Zeroed q) f = rw (f .suits)
+of-sample kind (Answer.Spanned s) f = rw (f .suits)
+of-sample kind (Answer.Area n area) f = rw (f .suits)
 
-module _ (a : AnswerRecord) (rest : List ℕ) (f : AnswerFits a) where
-  stands : answerAt (answerBytes a ++ rest) 0 ≡ a
-  stands = rw (take-at (answerBytes a) rest 24 (length-answer a)) (answer-read a f)
+of-area : (kind : ℕ) (a : Answer) → Fit kind a → GivenAsArea a (hostArea (recordOf kind a))
+unfolding hostArea
+of-area kind (Answer.Area n area) f =
+    let s = f .small in
+    record { is = rw (f .suits, within-limit area (s .x)); exact = is-whole area (s .x) }
+of-area kind (Answer.Refused number) f = rw (ne-eqb number 0 (λ e. omega (arith, f .suits .0)))
+of-area kind Answer.Done f = rw (f .suits .1)
+of-area kind (Answer.Zeroed q) f = rw (f .suits)
+of-area kind (Answer.Spanned s) f = rw (f .suits)
+of-area kind (Answer.Reading r wet dry) f = rw (f .suits)
 
-  long : 24 ≤ length (answerBytes a ++ rest)
-  long = omega (arith, length-append (answerBytes a) rest, length-answer a)
+-- ---- from the bytes that are lent
+module _ (file old : List ℕ) (are : AreBytes file) (w : wellFormed file ≡ true) (h : 24 * eventCount file ≤ length old)
+    (i : ℕ) (l : Line) (is : LineIs file i l) (n : ℕ) (k : 24 ≤ n) where
+  abbrev lent : List ℕ
+  lent = take n (drop (24 * i) (outputOf file old))
 
-  sample-bytes : hostSampleIn (answerBytes a ++ rest) ≡ hostSample a
+  long : 24 ≤ length lent
+  long =
+      rw (length-take, length-drop, length-output file old w h)
+      (omega (arith, line-below file i l is))
+
+  stands : answerAt lent 0 ≡ recordOf (kindOf (l .entry)) (l .answer)
+  stands = rw (take-take 24 n (drop (24 * i) (outputOf file old)) k) (line-read file old w h i l is are)
+
+  sample-in : hostSampleIn lent ≡ hostSample (recordOf (kindOf (l .entry)) (l .answer))
   unfolding hostSampleIn
-  sample-bytes = rw (le-leb 24 _ long) (ap hostSample stands)
+  sample-in = rw (le-leb 24 _ long) (ap hostSample stands)
 
-  area-bytes : hostAreaIn (answerBytes a ++ rest) ≡ hostArea a
+  area-in : hostAreaIn lent ≡ hostArea (recordOf (kindOf (l .entry)) (l .answer))
   unfolding hostAreaIn
-  area-bytes = rw (le-leb 24 _ long) (ap hostArea stands)
-
-answer-fits : (kind : ℕ) (a : Answer) → kind < 256 → refusalOf a ≡ 0 → Small a → AnswerFits (recordOf kind a)
-answer-fits kind a k e s =
-    record { kind = k; refusal = omega (arith, e); m = s .m; x = size-fits (xOf a) (s .x); y = size-fits (yOf a) (s .y) }
+  area-in = rw (le-leb 24 _ long) (ap hostArea stands)
 
 pub every-reading : EveryReading
-every-reading sheets st r rest kind accepted =
-    let s = fits sheets st (entryOf r) in
-    rw (sample-bytes (answerTo sheets st r) rest (answer-fits (r .kind) _ (omega (arith, kind)) accepted s)) (reading _ (s .x) accepted (s .y) (s .m) kind)
+every-reading file old are w h i l is n k = rw (sample-in file old are w h i l is n k) (of-sample _ (l .answer) (line-fit file i l is))
 
 pub every-area : EveryArea
-every-area sheets st r rest kind accepted =
-    let s = fits sheets st (entryOf r) in
-    rw (area-bytes (answerTo sheets st r) rest (answer-fits (r .kind) _ (omega (arith, kind)) accepted s)) (area _ (s .x) accepted kind)
+every-area file old are w h i l is n k = rw (area-in file old are w h i l is n k) (of-area _ (l .answer) (line-fit file i l is))

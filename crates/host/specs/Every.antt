@@ -1,34 +1,60 @@
--- That no accepted sample and no accepted area of the engine is lost on the way to the host, through the bytes that a run writes: every
--- one is a reading or an area, its doubles exactly the numbers. `proofs/Every.antt` proves both. Assumes nothing.
-use Prim.Native.Nat.{ℕ}
-use mathlib.Core.List.{List, _++_}
+-- What the host gets of every event of every file, from the bytes of a run's output: no accepted sample and no accepted area is lost on
+-- the way, each double is exactly the line's number, and a refusal has the line's number. `proofs/Every.antt` proves it. Assumes nothing.
+use Prim.Native.Nat.{ℕ, _*_, _≤_}
+use mathlib.Core.Bool.{true}
+use mathlib.Core.List.{List}
 use mathlib.Core.Path.{_≡_}
-use Rattle.layout.specs.declared.EventRecord.{EventRecord}
-use Rattle.layout.specs.declared.AnswerRecord.{AnswerRecord}
-use Rattle.layout.specs.Records.{answerBytes}
-use Rattle.engine.specs.declared.State.{State}
-use Rattle.engine.specs.Step.{stepOf}
-use Rattle.format.specs.Entries.{entryOf}
-use Rattle.session.specs.Run.{recordOf}
+use lib.IntN.{ℤ, pos}
+use lib.ListN.{length, take, drop}
+use Rattle.layout.specs.Fields.{AreBytes}
+use Rattle.engine.specs.declared.Answer.{Answer}
+use Rattle.format.specs.Header.{eventCount, wellFormed}
+use Rattle.ledger.specs.Claim.{Line}
+use Rattle.session.specs.Run.{outputOf}
+use Rattle.session.specs.Claim.{LineIs}
 use Rattle.host.specs.declared.HostAnswer.{HostAnswer}
-use Rattle.host.specs.Doubles.{doubleOf, doublesOf, hostSampleIn, hostAreaIn, Exactly}
+use Rattle.host.specs.Doubles.{doubleOf, Whole, hostSampleIn, hostAreaIn}
 
--- the record that the engine answers an event with, under any sheets and from any state
-abbrev pub answerTo : List ℕ → State → EventRecord → AnswerRecord
-answerTo sheets st r = recordOf (r .kind) (stepOf sheets st (entryOf r) .answer)
+-- a reading of three doubles: wet, dry and signal, each the whole number exactly. Host signal means R
+pub record ReadingGiven (r : ℕ) (wet dry : ℤ) (got : HostAnswer) : Type 0 where
+  pub is : got ≡ HostAnswer.Reading (record { wet = doubleOf wet; dry = doubleOf dry; signal = doubleOf (pos r) })
+  pub wet-exact : Whole (doubleOf wet) wet
+  pub dry-exact : Whole (doubleOf dry) dry
+  pub signal-exact : Whole (doubleOf (pos r)) (pos r)
 
--- what the host gets, and that it is the record's numbers
-pub record Given (got wanted : HostAnswer) (a : AnswerRecord) : Type 0 where
-  pub is : got ≡ wanted
-  pub exact : Exactly wanted a
+-- an area of one double, the whole number exactly
+pub record AreaGiven (area : ℤ) (got : HostAnswer) : Type 0 where
+  pub is : got ≡ HostAnswer.Area (doubleOf area)
+  pub exact : Whole (doubleOf area) area
 
--- the host is lent the bytes of the answer, whatever stands after them
+-- what the host gets of an answer that it asks for as a sample's: a reading; the refusal's number; or, of any other event's, 11
+abbrev pub GivenAsSample : Answer → HostAnswer → Type 0
+GivenAsSample (Answer.Reading r wet dry) got = ReadingGiven r wet dry got
+GivenAsSample (Answer.Refused number) got = got ≡ HostAnswer.Refused number
+GivenAsSample Answer.Done got = got ≡ HostAnswer.Refused 11
+GivenAsSample (Answer.Zeroed q) got = got ≡ HostAnswer.Refused 11
+GivenAsSample (Answer.Spanned s) got = got ≡ HostAnswer.Refused 11
+GivenAsSample (Answer.Area n area) got = got ≡ HostAnswer.Refused 11
+
+-- and as an area's
+abbrev pub GivenAsArea : Answer → HostAnswer → Type 0
+GivenAsArea (Answer.Area n area) got = AreaGiven area got
+GivenAsArea (Answer.Refused number) got = got ≡ HostAnswer.Refused number
+GivenAsArea Answer.Done got = got ≡ HostAnswer.Refused 11
+GivenAsArea (Answer.Zeroed q) got = got ≡ HostAnswer.Refused 11
+GivenAsArea (Answer.Spanned s) got = got ≡ HostAnswer.Refused 11
+GivenAsArea (Answer.Reading r wet dry) got = got ≡ HostAnswer.Refused 11
+
+-- of every file of well-formed bytes, every output that is long enough and every line of the file's transcript: what the host gets from
+-- the output's bytes, lent from byte 24 i on, n of them and at least 24, goes by the line's answer
+abbrev pub EveryLine : (List ℕ → HostAnswer) → (Answer → HostAnswer → Type 0) → Type 0
+EveryLine hostIn given =
+    (file old : List ℕ) → AreBytes file → wellFormed file ≡ true → 24 * eventCount file ≤ length old
+    → (i : ℕ) (line : Line) → LineIs file i line → (n : ℕ) → 24 ≤ n
+    → given (line .answer) (hostIn (take n (drop (24 * i) (outputOf file old))))
+
 abbrev pub EveryReading : Type 0
-EveryReading =
-    (sheets : List ℕ) (st : State) (r : EventRecord) (rest : List ℕ) → answerTo sheets st r .kind ≡ 6 → answerTo sheets st r .refusal ≡ 0
-    → Given (hostSampleIn (answerBytes (answerTo sheets st r) ++ rest)) (HostAnswer.Reading (doublesOf (answerTo sheets st r))) (answerTo sheets st r)
+EveryReading = EveryLine hostSampleIn GivenAsSample
 
 abbrev pub EveryArea : Type 0
-EveryArea =
-    (sheets : List ℕ) (st : State) (r : EventRecord) (rest : List ℕ) → answerTo sheets st r .kind ≡ 9 → answerTo sheets st r .refusal ≡ 0
-    → Given (hostAreaIn (answerBytes (answerTo sheets st r) ++ rest)) (HostAnswer.Area (doubleOf (answerTo sheets st r .x))) (answerTo sheets st r)
+EveryArea = EveryLine hostAreaIn GivenAsArea

@@ -3,3 +3,5 @@ pub mod Turn
 pub mod Outcome
 pub mod Printing
 pub mod Transcript
+pub mod Claim
+pub mod Example

@@ -1,5 +1,5 @@
 //! How the program under test ends: its exit status and its line where it has no session
-//! to answer, and where nobody takes its lines.
+//! to answer, and where nobody takes its lines. README.md says the same.
 
 use std::fs::File;
 use std::io::Write;
@@ -7,6 +7,7 @@ use std::os::unix::process::ExitStatusExt;
 use std::path::Path;
 use std::process::{Command, Stdio};
 
+use irga_tests::figures::in_one_line;
 use irga_tests::file;
 use irga_tests::harness::{Executable, Program};
 use irga_tests::lesson;
@@ -59,4 +60,19 @@ fn a_full_device_leaves_the_status_0() {
 fn a_pipe_that_nobody_reads_ends_the_program_by_a_signal() {
     let status = status_after_the_lesson(Stdio::piped());
     assert_eq!((status.code(), status.signal()), (None, Some(BROKEN_PIPE)));
+}
+
+/// A shell adds 128 to the number of the signal.
+#[test]
+fn readme_says_how_it_ends() {
+    let page = in_one_line(include_str!("../../README.md"));
+    let by_signal =
+        format!("ends it otherwise, by the signal SIGPIPE ({} in a shell).", 128 + BROKEN_PIPE);
+    for sentence in [
+        "A file that it refuses, an empty one, or an input that cannot be read gives the one line",
+        "Its exit status is 0 in these cases too, and when its output cannot be written,",
+        &by_signal,
+    ] {
+        assert!(page.contains(sentence), "README.md does not say: {sentence}");
+    }
 }

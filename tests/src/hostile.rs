@@ -7,7 +7,7 @@ use crate::file::{EventRecord, Session, HEADER_BYTES, RECORD_BYTES, SHEETS_LIMIT
 
 /// An event that goes well with the bench sheet, and the offsets of the fields that document
 /// 01 gives to its kind. Every other byte after the first must be zero.
-const KINDS: [(Event, &[usize]); 9] = [
+pub const KINDS: [(Event, &[usize]); 9] = [
     (Event::Load { index: 0 }, &[8]),
     (Event::Zero { raw: 1_000 }, &[4]),
     (

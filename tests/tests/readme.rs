@@ -4,9 +4,10 @@
 use irga_tests::bench;
 use irga_tests::engine::{step, Answer, Entry, Event, SheetRecord, State, READINGS_LIMIT};
 use irga_tests::figures::{grouped, in_one_line};
-use irga_tests::file::{self, Session};
+use irga_tests::file::{self, EventRecord, Session};
 use irga_tests::harness::SESSIONS;
-use irga_tests::rules::{self, Air};
+use irga_tests::hostile;
+use irga_tests::rules::{self, Air, Refusal};
 use irga_tests::{ledger, lesson};
 
 const README: &str = include_str!("../../README.md");
@@ -86,11 +87,112 @@ fn lengths_in_bytes() {
     }
 }
 
+/// The cells, but for the first, of the first row of a table that begins like this.
+fn row(first: &str) -> Vec<&'static str> {
+    let begin = format!("| {first}");
+    let row = README.lines().find(|line| line.starts_with(&begin));
+    let row = row.unwrap_or_else(|| panic!("no row {first}"));
+    row.split('|').map(str::trim).skip(2).collect()
+}
+
+/// The offsets that differ between two records.
+fn differing(one: &[u8], other: &[u8]) -> Vec<usize> {
+    (0..file::RECORD_BYTES).filter(|at| one[*at] != other[*at]).collect()
+}
+
+/// Holds the bytes that a field fills to its column in the table of records, and its type.
+fn assert_place(record: &str, name: &str, kind: &str, one: &[u8], other: &[u8]) {
+    let columns: Vec<usize> = row("| 0 |").iter().filter_map(|cell| cell.parse().ok()).collect();
+    let cells = row(&format!("{record} |"));
+    let field = format!("{name} {kind}");
+    let of_field = |cell: &str| cell.split(", ").any(|part| part.starts_with(&field));
+    let column = cells.iter().position(|cell| of_field(cell));
+    let column = column.unwrap_or_else(|| panic!("{record} has no {field}"));
+    // The refusal stands behind the kind, in the same column.
+    let first = columns[column] + usize::from(name == "refusal");
+    let bytes: usize = kind[1..].parse::<usize>().expect("a number of bits") / 8;
+    assert_eq!(differing(one, other), (first..first + bytes).collect::<Vec<usize>>(), "{field}");
+}
+
+/// Here and below, all bytes of a field turned over and nothing else.
+#[test]
+fn places_of_an_event_s_fields() {
+    let none = EventRecord::default();
+    for (name, kind, record) in [
+        ("kind", "u8", EventRecord { kind: u8::MAX, ..none }),
+        ("raw", "i32", EventRecord { raw: -1, ..none }),
+        ("C", "u32", EventRecord { c: u32::MAX, ..none }),
+        ("P", "u32", EventRecord { p: u32::MAX, ..none }),
+        ("T", "u32", EventRecord { t: u32::MAX, ..none }),
+        ("e", "u32", EventRecord { e: u32::MAX, ..none }),
+    ] {
+        assert_place("event", name, kind, &none.to_bytes(), &record.to_bytes());
+    }
+}
+
+#[test]
+fn places_of_a_sheet_s_fields() {
+    let none = SheetRecord { a1: 0, a2: 0, a3: 0, t0: 0, k: 0, rest: 0 };
+    let bytes = |sheet: SheetRecord| {
+        let file = Session { sheets: vec![sheet], events: Vec::new() }.to_bytes();
+        file[file::HEADER_BYTES..].to_vec()
+    };
+    for (name, kind, sheet) in [
+        ("A1", "i32", SheetRecord { a1: -1, ..none }),
+        ("A2", "i32", SheetRecord { a2: -1, ..none }),
+        ("A3", "i32", SheetRecord { a3: -1, ..none }),
+        ("T0", "u32", SheetRecord { t0: u32::MAX, ..none }),
+        ("K", "u32", SheetRecord { k: u32::MAX, ..none }),
+    ] {
+        assert_place("sheet", name, kind, &bytes(none), &bytes(sheet));
+    }
+}
+
+#[test]
+fn places_of_an_answer_s_fields() {
+    let none = Answer { kind: 0, refusal: 0, m: 0, x: 0, y: 0 };
+    for (name, kind, answer) in [
+        ("kind", "u8", Answer { kind: u8::MAX, ..none }),
+        ("refusal", "u8", Answer { refusal: u8::MAX, ..none }),
+        ("m", "u32", Answer { m: u32::MAX, ..none }),
+        ("x", "i64", Answer { x: -1, ..none }),
+        ("y", "i64", Answer { y: -1, ..none }),
+    ] {
+        let [one, other] = [none, answer].map(|answer| file::answer_to_bytes(&answer));
+        assert_place("answer", name, kind, &one, &other);
+    }
+}
+
+/// The fields of each kind of event, by their offsets.
+#[test]
+fn fields_of_the_kinds() {
+    let names = [("raw", 4), ("C", 8), ("P", 12), ("T", 16), ("e", 20)];
+    for (event, offsets) in hostile::KINDS {
+        let kind = event.kind();
+        let number = if kind == 7 || kind == 8 { "7, 8".to_string() } else { kind.to_string() };
+        let cells = row(&format!("{number} |"));
+        assert!(cells[0].contains(KINDS[usize::from(kind) - 1]), "{cells:?}");
+        let words: Vec<&str> = cells[1].split([',', ':', ' ']).collect();
+        let has: Vec<usize> =
+            names.iter().filter(|(name, _)| words.contains(name)).map(|(_, at)| *at).collect();
+        assert_eq!(has, offsets, "kind {kind}");
+    }
+}
+
 /// Five readings a second, and nothing else in the file.
 #[test]
 fn a_session_file_in_minutes() {
     assert_eq!(file::EVENTS_LIMIT / 5 / 60, 9);
     assert_says("a session file holds nine minutes of readings");
+}
+
+/// The smallest units of a mole fraction, and of an area, which counts in 0.1 s.
+#[test]
+fn units_of_values() {
+    let micro = 10 * bench::PMOL_PER_TENTH;
+    assert_says(&format!("(10^{} of them are 1 µmol/mol)", micro.ilog10()));
+    assert_says(&format!("(10^{} of them are 1 µmol/mol s)", (10 * micro).ilog10()));
+    assert_eq!((10i64.pow(micro.ilog10()), micro), (micro, 1_000_000));
 }
 
 /// A printed decimal number times a power of ten, which comes out whole.
@@ -117,7 +219,8 @@ fn a_printed_sheet() {
         "A printed sheet with a1 {a1}, a2 {a2}, a3 {a3}, K {k} mV and {celsius} °C becomes"
     ));
     let k = scaled(k, 0) * bench::UNITS_PER_MV;
-    let t0 = scaled(celsius, 2) + 27_315;
+    assert_says("in hundredths of a kelvin (°C + 273.15)");
+    let t0 = scaled(celsius, 2) + scaled("273.15", 2);
     let sheet = rules::Sheet { a1: scaled(a1, 9), a2: scaled(a2, 12), a3: scaled(a3, 15), t0, k };
     assert_eq!(sheet, bench::TABLE_SHEET);
     let [a1, a2, a3, t0, k] = [sheet.a1, sheet.a2, sheet.a3, sheet.t0, sheet.k].map(number);
@@ -230,6 +333,54 @@ fn numbers_of_the_rules() {
     ] {
         assert_says(&sentence);
     }
+}
+
+/// The steps in README.md's words, and in the same numbers, at the bench's damp reading.
+#[test]
+fn steps_of_a_reading() {
+    assert_says("V = near((raw − Q) S / 10^6).");
+    let (raw, q, s) = (41_000_000, 1_250, 987_654);
+    assert_eq!(rules::signal_from_raw(raw, q, s), near((raw - q) * s, 10i64.pow(6)));
+    assert_says("h2 = A2 + near(A3 z / 10^7), h1 = A1 + near(h2 z / 10^7), f = near(z h1 / 10^7),");
+    assert_says("g = near(f D / (100 P)), and wet = near(g T / T0). Dry is near(wet P / (P − e)).");
+    let (sheet, ten_to_7) = (bench::sheet().accepted().expect("the bench sheet"), 10i64.pow(7));
+    let air = Air { p: 100_000, t: 29_815, e: 2_000 };
+    let (v, d) = (40_456_000, air.broadened());
+    let z = near(10_130_000 * v, d);
+    let h2 = sheet.a2 + near(sheet.a3 * z, ten_to_7);
+    let h1 = sheet.a1 + near(h2 * z, ten_to_7);
+    let f = near(z * h1, ten_to_7);
+    let g = near(f * d, 100 * air.p);
+    let wet = near(g * air.t, sheet.t0);
+    assert_eq!(rules::absolute_reading(&sheet, &air, v), Ok(wet));
+    assert_eq!(rules::dry_value(wet, &air), near(wet * air.p, air.p - air.e));
+}
+
+fn near(a: i64, b: i64) -> i64 {
+    rules::near(i128::from(a), i128::from(b)) as i64
+}
+
+/// Document 01's numbers, and its order.
+#[test]
+fn refusals_and_their_order() {
+    for (refusal, words) in [
+        (Refusal::NoSheet, "no sheet loaded,"),
+        (Refusal::SheetOutsideLimits, "the sheet that is loaded is outside its limits,"),
+        (Refusal::ZeroOutsideRange, "zero beyond"),
+        (Refusal::CylinderOutsideRange, "cylinder outside its limits,"),
+        (Refusal::NoSpanServes, "no span from"),
+        (Refusal::InputOutsideLimits, "raw, P, T or e outside its limits;"),
+        (Refusal::BelowZero, "the signal is below zero"),
+        (Refusal::OverRange, "over range:"),
+        (Refusal::NoReferenceSignal, "no signal reads the reference cylinder"),
+        (Refusal::NotNow, "span against a reference;"),
+        (Refusal::MalformedEvent, "unknown kind,"),
+        (Refusal::MalformedFile, "header or length"),
+        (Refusal::OutputTooShort, "the lent output is shorter"),
+    ] {
+        assert_says(&format!("| {} | {words}", refusal.number()));
+    }
+    assert_says("the first in this order is given: 11, 1, 2, 10, 6, 3, 4, 5, 9, 7, 8. 12 and 13");
 }
 
 #[test]

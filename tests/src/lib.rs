@@ -1,4 +1,4 @@
-//! A second implementation of the analyser engine, written from document 01
+//! A second implementation of the analyser engine, its rules written from document 01
 //! alone, so that two readings of the same paper can be held against each other.
 //!
 //! `rules` is the arithmetic, `engine` the nine events, `file` the session file

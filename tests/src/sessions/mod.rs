@@ -1,6 +1,6 @@
 //! Invented sessions: lessons as a class would give them, the limits and one beside
-//! them, hostile kinds and padding, damaged headers and lengths, long integrations,
-//! and lists with hardly an accepted event.
+//! them, signals over range by every ground, hostile kinds, padding and fields, damaged
+//! headers and lengths, long integrations, and lists with hardly an accepted event.
 
 mod author;
 mod damage;

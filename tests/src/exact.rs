@@ -115,8 +115,9 @@ impl Sum {
     }
 
     pub fn total(&self) -> Fraction {
-        let nothing = Fraction::whole(0);
-        self.parts.iter().fold(nothing, |total, part| total.plus(part))
+        let mut parts = self.parts.iter();
+        let first = parts.next().cloned().unwrap_or_else(|| Fraction::whole(0));
+        parts.fold(first, |total, part| total.plus(part))
     }
 }
 

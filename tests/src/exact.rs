@@ -43,6 +43,11 @@ impl Fraction {
         &self.upper * &other.lower == &other.upper * &self.lower
     }
 
+    /// Whether this value is farther from 0 than another.
+    pub fn is_farther_than(&self, other: &Fraction) -> bool {
+        &self.upper.magnitude() * &other.lower > &other.upper.magnitude() * &self.lower
+    }
+
     /// The whole number less this value, times the lower number.
     fn gap(&self, whole: i128) -> Big {
         &(&Big::from(whole) * &self.lower) - &self.upper
@@ -110,8 +115,9 @@ impl Sum {
     }
 
     pub fn total(&self) -> Fraction {
-        let nothing = Fraction::whole(0);
-        self.parts.iter().fold(nothing, |total, part| total.plus(part))
+        let mut parts = self.parts.iter();
+        let first = parts.next().cloned().unwrap_or_else(|| Fraction::whole(0));
+        parts.fold(first, |total, part| total.plus(part))
     }
 }
 
@@ -223,6 +229,11 @@ mod tests {
         assert!(third.within(-2, 1) && third.within(-3, 1) && !third.within(-1, 1));
         assert!(third.at_least(-3) && third.less_than(-2) && !third.less_than(-3));
         assert!(Fraction::of(4, 2).at_least(2) && Fraction::of(4, 2).within(3, 1));
+        assert!(third.is_farther_than(&Fraction::whole(2)));
+        assert!(
+            !third.is_farther_than(&Fraction::of(7, 3))
+                && !third.is_farther_than(&Fraction::of(-5, 2))
+        );
         assert_eq!(third.decimal(4), "-2.3333");
         assert_eq!(Fraction::of(1, 16).decimal(3), "0.062");
     }

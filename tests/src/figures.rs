@@ -1,4 +1,4 @@
-//! Figures as a reader wants them.
+//! Figures as a reader wants them, and where to look for them.
 
 /// A decimal number with commas between the thousands of its whole part.
 pub fn grouped(number: &str) -> String {
@@ -12,6 +12,11 @@ pub fn grouped(number: &str) -> String {
         text.push(digit);
     }
     text + rest
+}
+
+/// A page's words with single spaces, so that a sentence is found wherever its lines break.
+pub fn in_one_line(page: &str) -> String {
+    page.split_whitespace().collect::<Vec<&str>>().join(" ")
 }
 
 #[cfg(test)]

@@ -4,6 +4,7 @@
 //! answers are then the same, the exact ledger is walked over ours: demand 3's
 //! distances are checked on each session too.
 
+use std::ffi::OsString;
 use std::fs;
 use std::io::Write;
 use std::path::{Path, PathBuf};
@@ -37,10 +38,19 @@ pub struct Executable {
 }
 
 impl Executable {
-    /// The program under test, if the environment variable IRGA_PROGRAM names one.
-    pub fn under_test() -> Option<Executable> {
-        let path = std::env::var_os("IRGA_PROGRAM")?;
-        Some(Executable { path: PathBuf::from(path) })
+    /// The program under test, which the environment variable IRGA_PROGRAM names. Without
+    /// one there is nothing to compare with, and a test that asks for it fails.
+    pub fn under_test() -> Executable {
+        let named = std::env::var_os("IRGA_PROGRAM");
+        Executable::named(named).unwrap_or_else(|why| panic!("{why}"))
+    }
+
+    fn named(path: Option<OsString>) -> Result<Executable, &'static str> {
+        let path = path.filter(|path| !path.is_empty()).ok_or(
+            "no program to compare with: set IRGA_PROGRAM to the full path of target/bin/irga, \
+             which `rt check irga` makes",
+        )?;
+        Ok(Executable { path: PathBuf::from(path) })
     }
 }
 
@@ -78,6 +88,9 @@ pub struct Count {
     pub met: Distances,
 }
 
+/// How many sessions a campaign has unless the environment says otherwise.
+pub const SESSIONS: u64 = 20_000;
+
 /// Many sessions under one seed; a failing one is written into the folder.
 pub struct Campaign {
     pub seed: u64,
@@ -86,11 +99,11 @@ pub struct Campaign {
 }
 
 impl Campaign {
-    /// As many sessions as the environment variable IRGA_SESSIONS says, or 20,000.
+    /// As many sessions as the environment variable IRGA_SESSIONS says.
     pub fn from_environment(seed: u64, folder: &Path) -> Campaign {
         let sessions = match std::env::var("IRGA_SESSIONS") {
             Ok(text) => text.parse().ok().filter(|count| *count > 0),
-            Err(_) => Some(20_000),
+            Err(_) => Some(SESSIONS),
         };
         let sessions = sessions.expect("IRGA_SESSIONS is a whole number above 0");
         Campaign { seed, sessions, folder: folder.to_path_buf() }
@@ -236,4 +249,18 @@ fn compare_lines(program: &mut dyn Program, file: &[u8]) -> Result<(), String> {
     let differs = ours.lines().zip(theirs.lines()).find(|(a, b)| a != b);
     let (expected, given) = differs.unwrap_or(("the same lines", "other lengths or line ends"));
     Err(format!("expected the line '{expected}', the program printed '{given}'"))
+}
+
+#[cfg(test)]
+mod tests {
+    use super::*;
+
+    #[test]
+    fn a_program_that_is_not_named_is_a_fault() {
+        for nothing in [None, Some(OsString::new())] {
+            let why = Executable::named(nothing).err().expect("nothing was named");
+            assert!(why.contains("set IRGA_PROGRAM"), "{why}");
+        }
+        assert!(Executable::named(Some("target/bin/irga".into())).is_ok());
+    }
 }

@@ -133,9 +133,7 @@ fn printed(sheets: &[SheetRecord], events: &[Event]) -> String {
     let events = events.iter().map(EventRecord::of).collect();
     let bytes = Session { sheets: sheets.to_vec(), events }.to_bytes();
     let text = file::program(&bytes);
-    if let Some(mut program) = Executable::under_test() {
-        assert_eq!(program.print(&bytes).as_deref(), Ok(text.as_bytes()));
-    }
+    assert_eq!(Executable::under_test().print(&bytes).as_deref(), Ok(text.as_bytes()));
     text
 }
 

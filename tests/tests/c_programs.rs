@@ -199,13 +199,11 @@ fn assert_owed(printed: &[u8], lines: &str, meanings: &mut HashMap<String, Strin
 }
 
 /// The lines of a session by this implementation, which are those of the program under
-/// test too, if one is named.
+/// test too.
 fn lines(session: &[u8]) -> String {
     let ours = file::program(session);
-    if let Some(mut program) = Executable::under_test() {
-        let printed = program.print(session);
-        assert_eq!(printed.expect("the program runs"), ours.as_bytes());
-    }
+    let printed = Executable::under_test().print(session);
+    assert_eq!(printed.expect("the program runs"), ours.as_bytes());
     ours
 }
 

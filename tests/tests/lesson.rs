@@ -1,6 +1,10 @@
 //! The lesson in examples/: its file is what the lesson makes, its text what this
 //! implementation prints of it.
 
+use std::fs;
+use std::path::Path;
+use std::process::Command;
+
 use irga_tests::{file, lesson};
 
 const FILE: &[u8] = include_bytes!("../../examples/lesson.session");
@@ -23,4 +27,17 @@ fn every_event_is_accepted() {
     assert!(answers.iter().all(|answer| answer.refusal == 0));
     let area = answers.last().expect("an area");
     assert_eq!(area.m, 300);
+}
+
+/// The command in README.md names the file, so that it is not emptied before it is made.
+#[test]
+fn the_program_writes_the_file_that_is_named() {
+    let path = Path::new(env!("CARGO_TARGET_TMPDIR")).join("lesson.session");
+    let mut program = Command::new(env!("CARGO_BIN_EXE_lesson"));
+    assert!(!program.output().expect("the program starts").status.success());
+    let output = program.arg(&path).output().expect("the program starts");
+    assert!(output.status.success() && output.stdout.is_empty());
+    assert_eq!(fs::read(&path).expect("the file is there"), FILE);
+    let command = "--bin lesson examples/lesson.session`";
+    assert!(include_str!("../../README.md").contains(command));
 }

@@ -8,6 +8,7 @@ use std::thread;
 use irga_tests::engine::Answer;
 use irga_tests::file::{self, Outcome, Session, LINE_ROOM, RECORD_BYTES};
 use irga_tests::harness::{Campaign, Count};
+use irga_tests::hostile;
 use irga_tests::lesson;
 use irga_tests::library;
 use irga_tests::random::Random;
@@ -117,6 +118,27 @@ fn every_profile_and_the_ends_of_a_file() {
         lessons.sheets.clear();
         assert_same_at_each_length(&lessons.to_bytes());
         lessons.sheets = lesson::session().sheets;
+    }
+}
+
+/// Each by itself: 11 for an event, 2 for a sheet.
+#[test]
+fn bits_that_must_be_zero() {
+    for spoilt in hostile::bits_that_must_be_zero() {
+        let mut output = vec![0; LINE_ROOM * spoilt.owed.len()];
+        let written = library::run(&spoilt.file, &mut output).written;
+        assert_eq!(spoilt.check_answers(&output[..written]), Ok(()));
+        let written = library::lines(&spoilt.file, &mut output).written;
+        assert_eq!(spoilt.check_lines(&String::from_utf8_lossy(&output[..written])), Ok(()));
+        assert_same_at_each_length(&spoilt.file);
+    }
+}
+
+#[test]
+fn headers_whose_sums_wrap() {
+    for file in hostile::wrapping_headers() {
+        assert_eq!(library::run(&file, &mut [0; 96]), Outcome { status: 12, written: 0 });
+        assert_same_at_each_length(&file);
     }
 }
 

@@ -4,6 +4,8 @@
 use irga_tests::bench;
 use irga_tests::engine::{Entry, Event};
 use irga_tests::file::{self, EventRecord, Outcome, Session};
+use irga_tests::harness::{Executable, Program};
+use irga_tests::hostile;
 
 fn word(bytes: &mut Vec<u8>, number: u32) {
     bytes.extend(number.to_le_bytes());
@@ -81,33 +83,34 @@ fn every_header_word_and_the_length_count() {
     assert_eq!(file::program(&longer), "0 0 12 0 0 0\n");
 }
 
-/// A byte that is not zero makes a record malformed wherever its kind has no field.
+/// A bit that is set where a kind has no field is refused with 11, and in the last bytes of a
+/// sheet with 2; where the kind has a field it is not 11.
 #[test]
-fn bytes_that_must_be_zero() {
-    let fields_of_kind: [(u8, &[usize]); 9] = [
-        (1, &[8]),
-        (2, &[4]),
-        (3, &[4, 8, 12, 16, 20]),
-        (4, &[8, 20]),
-        (5, &[]),
-        (6, &[4, 12, 16, 20]),
-        (7, &[]),
-        (8, &[]),
-        (9, &[]),
-    ];
-    for (kind, fields) in fields_of_kind {
-        for at in 1..24 {
-            let mut bytes = [0u8; 24];
-            bytes[0] = kind;
-            bytes[at] = 0x80;
-            let entry = EventRecord::from_bytes(&bytes).entry();
-            let has_field = at >= 4 && fields.contains(&(at - at % 4));
-            assert_eq!(entry == Entry::Malformed(kind), !has_field, "kind {kind} byte {at}");
-        }
+fn bits_that_must_be_zero() {
+    for spoilt in hostile::bits_that_must_be_zero() {
+        let mut output = vec![0; 24 * spoilt.owed.len()];
+        assert_eq!(file::run(&spoilt.file, &mut output).status, 0);
+        assert_eq!(spoilt.check_answers(&output), Ok(()));
+        assert_eq!(spoilt.check_lines(&file::program(&spoilt.file)), Ok(()));
     }
-    for kind in (0..=255u8).filter(|kind| !(1..=9).contains(kind)) {
-        let record = EventRecord { kind, ..EventRecord::default() };
-        assert_eq!(record.entry(), Entry::Malformed(kind));
+}
+
+#[test]
+fn bits_that_must_be_zero_in_the_program_under_test() {
+    for spoilt in hostile::bits_that_must_be_zero() {
+        let printed = Executable::under_test().print(&spoilt.file).expect("the program runs");
+        assert_eq!(spoilt.check_lines(&String::from_utf8_lossy(&printed)), Ok(()));
+        assert_eq!(printed, file::program(&spoilt.file).as_bytes());
+    }
+}
+
+#[test]
+fn headers_whose_sums_wrap() {
+    for file in hostile::wrapping_headers() {
+        let mut output = [0xAA; 96];
+        assert_eq!(file::run(&file, &mut output), Outcome { status: 12, written: 0 });
+        let printed = Executable::under_test().print(&file);
+        assert_eq!(printed.as_deref(), Ok("0 0 12 0 0 0\n".as_bytes()), "{:?}", &file[..16]);
     }
 }
 

@@ -3,13 +3,13 @@
 use std::error::Error;
 use std::fs;
 
-use irga_tests::drift::{picture, points, table};
+use irga_tests::drift::{measure, picture, table};
 
 fn main() -> Result<(), Box<dyn Error>> {
-    let points = points()?;
-    print!("{}", table::text(&points));
+    let drift = measure()?;
+    print!("{}", table::text(&drift));
     if let Some(path) = std::env::args_os().nth(1) {
-        fs::write(path, picture::text(&points))?;
+        fs::write(path, picture::text(&drift))?;
     }
     Ok(())
 }

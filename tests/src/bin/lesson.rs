@@ -1,7 +1,11 @@
-//! Writes the lesson's session file to standard output.
+//! Writes the lesson's session file. It is named as an argument and not by `>`, which would
+//! empty the old one before this program is even built.
 
-use std::io::{self, Write};
+use std::error::Error;
+use std::fs;
 
-fn main() -> io::Result<()> {
-    io::stdout().lock().write_all(&irga_tests::lesson::session().to_bytes())
+fn main() -> Result<(), Box<dyn Error>> {
+    let path = std::env::args_os().nth(1).ok_or("name the file to write")?;
+    let bytes = irga_tests::lesson::session().to_bytes();
+    Ok(fs::write(path, bytes)?)
 }

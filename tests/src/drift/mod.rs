@@ -33,6 +33,14 @@ pub struct Point {
     pub engine: Fraction,
 }
 
+impl Point {
+    /// Before the first reading.
+    fn nothing() -> Point {
+        let zero = || Fraction::whole(0);
+        Point { readings: 0, exact: zero(), shown: zero(), unrounded: zero(), engine: zero() }
+    }
+}
+
 /// The same readings on every way.
 struct Ways {
     state: State,
@@ -86,15 +94,53 @@ impl Ways {
     }
 }
 
-/// The areas after each whole cycle of light and dark, up to the longest integration.
-pub fn points() -> Result<Vec<Point>, String> {
-    let mut ways = Ways::started()?;
-    let mut points = Vec::new();
-    for (readings, raw) in (1..=READINGS_LIMIT as u32).zip(Leaf::new()) {
-        ways.read(raw)?;
-        if readings % CYCLE == 0 {
-            points.push(ways.point(readings)?);
+/// A way's distance from the exact area.
+pub type Distance = fn(&Point) -> &Fraction;
+
+/// The three ways: the old one as it is shown, the old one left unrounded, the engine.
+pub const WAYS: [Distance; 3] =
+    [|point| &point.shown, |point| &point.unrounded, |point| &point.engine];
+
+/// The long lesson, with an area read after every reading.
+#[derive(Clone, Debug)]
+pub struct Drift {
+    /// The areas after each whole cycle of light and dark.
+    pub points: Vec<Point>,
+    /// For each way the first of its areas that are farthest from the exact one.
+    pub worst: [Point; 3],
+    /// How many areas were read.
+    pub areas: u32,
+}
+
+impl Drift {
+    /// Each way's largest distance.
+    pub fn worst_distances(&self) -> [&Fraction; 3] {
+        let [shown, unrounded, engine] = &self.worst;
+        [&shown.shown, &unrounded.unrounded, &engine.engine]
+    }
+
+    fn take(&mut self, point: Point) {
+        self.areas += 1;
+        for (worst, distance) in self.worst.iter_mut().zip(WAYS) {
+            if distance(&point).is_farther_than(distance(worst)) {
+                *worst = point.clone();
+            }
+        }
+        if point.readings % CYCLE == 0 {
+            self.points.push(point);
         }
     }
-    Ok(points)
+}
+
+/// Goes through the longest integration there is.
+pub fn measure() -> Result<Drift, String> {
+    let mut ways = Ways::started()?;
+    let nothing = Point::nothing();
+    let worst = [nothing.clone(), nothing.clone(), nothing];
+    let mut drift = Drift { points: Vec::new(), worst, areas: 0 };
+    for (readings, raw) in (1..=READINGS_LIMIT as u32).zip(Leaf::new()) {
+        ways.read(raw)?;
+        drift.take(ways.point(readings)?);
+    }
+    Ok(drift)
 }

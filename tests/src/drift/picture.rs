@@ -1,6 +1,7 @@
-//! The drift as a picture: the distance from the exact area over the length of the lesson.
+//! The drift as a picture: the distance from the exact area over the length of the lesson,
+//! as lines through the areas after each cycle, with a dot at the worst of all areas.
 
-use super::{Point, READINGS_AN_HOUR, UNITS};
+use super::{table, Distance, Drift, Point, READINGS_AN_HOUR, UNITS, WAYS};
 use crate::exact::Fraction;
 use crate::figures::grouped;
 
@@ -19,25 +20,40 @@ const AFTERNOON: f64 = 3.0;
 /// One way to the area: what the legend calls it, how its line is drawn, its distance.
 struct Line {
     name: &'static str,
-    stroke: &'static str,
-    distance: fn(&Point) -> &Fraction,
+    colour: &'static str,
+    pen: &'static str,
+    distance: Distance,
+    /// Where the number of its worst area stands beside the dot.
+    number: Place,
+}
+
+struct Place {
+    anchor: &'static str,
+    right: f64,
+    down: f64,
 }
 
 const LINES: [Line; 3] = [
     Line {
         name: "old way, readings rounded to 0.1 µmol/mol",
-        stroke: "stroke=\"#c0392b\" stroke-width=\"2\"",
-        distance: |point| &point.shown,
+        colour: "#c0392b",
+        pen: "stroke-width=\"2\"",
+        distance: WAYS[0],
+        number: Place { anchor: "end", right: -7.0, down: 11.0 },
     },
     Line {
         name: "old way, readings not rounded",
-        stroke: "stroke=\"#d98e04\" stroke-width=\"2\" stroke-dasharray=\"7 4\"",
-        distance: |point| &point.unrounded,
+        colour: "#d98e04",
+        pen: "stroke-width=\"2\" stroke-dasharray=\"7 4\"",
+        distance: WAYS[1],
+        number: Place { anchor: "start", right: 9.0, down: 8.0 },
     },
     Line {
         name: "this engine",
-        stroke: "stroke=\"#1f5fa8\" stroke-width=\"3\"",
-        distance: |point| &point.engine,
+        colour: "#1f5fa8",
+        pen: "stroke-width=\"3\"",
+        distance: WAYS[2],
+        number: Place { anchor: "end", right: -7.0, down: -8.0 },
     },
 ];
 
@@ -72,13 +88,14 @@ struct Scale {
 
 impl Scale {
     /// The marks next beyond the lowest and the highest distance are the ends.
-    fn new(points: &[Point]) -> Scale {
-        let all = points.iter().flat_map(|point| LINES.map(|line| micro((line.distance)(point))));
+    fn new(drift: &Drift) -> Scale {
+        let all = drift.points.iter().chain(&drift.worst);
+        let all = all.flat_map(|point| LINES.map(|line| micro((line.distance)(point))));
         let (low, high) = all.fold((0.0f64, 0.0f64), |(low, high), distance| {
             (low.min(distance), high.max(distance))
         });
         let step = step(high - low);
-        let hours = points.last().map_or(1.0, hours_of);
+        let hours = drift.points.last().map_or(1.0, hours_of);
         Scale { hours, low: (low / step).floor() * step, high: (high / step).ceil() * step, step }
     }
 
@@ -126,7 +143,21 @@ impl Scale {
         };
         let start = format!("{:.1},{:.1}", self.x(0.0), self.y(0.0));
         let places: String = points.iter().map(place).collect();
-        format!("<polyline points=\"{start}{places}\" fill=\"none\" {}/>\n", line.stroke)
+        let (colour, pen) = (line.colour, line.pen);
+        format!("<polyline points=\"{start}{places}\" fill=\"none\" stroke=\"{colour}\" {pen}/>\n")
+    }
+
+    /// A dot at the worst of all areas, and how far off it is.
+    fn dot(&self, line: &Line, worst: &Point, size: &str) -> String {
+        let (x, y) = (self.x(hours_of(worst)), self.y(micro((line.distance)(worst))));
+        let (colour, Place { anchor, right, down }) = (line.colour, &line.number);
+        format!(
+            "<circle cx=\"{x:.1}\" cy=\"{y:.1}\" r=\"4\" fill=\"{colour}\"/>\n\
+             <text x=\"{:.1}\" y=\"{:.1}\" text-anchor=\"{anchor}\" fill=\"{colour}\">\
+             worst {size}</text>\n",
+            x + right,
+            y + down
+        )
     }
 }
 
@@ -139,8 +170,10 @@ fn legend() -> String {
     let lefts = [LEFT, LEFT + 305.0, LEFT + 535.0];
     let entry = |(line, left): (&Line, f64)| {
         format!(
-            "<path d=\"M{left} 38h26\" fill=\"none\" {}/>\n<text x=\"{}\" y=\"42\">{}</text>\n",
-            line.stroke,
+            "<path d=\"M{left} 38h26\" fill=\"none\" stroke=\"{}\" {}/>\n\
+             <text x=\"{}\" y=\"42\">{}</text>\n",
+            line.colour,
+            line.pen,
             left + 32.0,
             line.name
         )
@@ -168,9 +201,12 @@ fn words(scale: &Scale) -> String {
 }
 
 /// The picture as SVG.
-pub fn text(points: &[Point]) -> String {
-    let scale = Scale::new(points);
-    let lines: String = LINES.iter().map(|line| scale.line(line, points)).collect();
+pub fn text(drift: &Drift) -> String {
+    let scale = Scale::new(drift);
+    let lines: String = LINES.iter().map(|line| scale.line(line, &drift.points)).collect();
+    let worst = drift.worst.iter().zip(table::worst(drift));
+    let dots = LINES.iter().zip(worst).map(|(line, (point, size))| scale.dot(line, point, &size));
+    let dots: String = dots.collect();
     let title = "How far the area slides off over a long lesson";
     format!(
         "<svg xmlns=\"http://www.w3.org/2000/svg\" width=\"{WIDTH}\" height=\"{HEIGHT}\" \
@@ -178,7 +214,7 @@ pub fn text(points: &[Point]) -> String {
          fill=\"#222222\">\n<title>{title}</title>\n\
          <rect width=\"{WIDTH}\" height=\"{HEIGHT}\" fill=\"#ffffff\"/>\n\
          <text x=\"{LEFT}\" y=\"20\" font-size=\"14\" font-weight=\"bold\">{title}</text>\n\
-         {}{}{}{}{lines}</svg>\n",
+         {}{}{}{}{lines}{dots}</svg>\n",
         legend(),
         scale.marks_of_distance(),
         scale.marks_of_hours(),

@@ -1,6 +1,6 @@
 //! The drift as a table.
 
-use super::{Point, READINGS_AN_HOUR, UNITS};
+use super::{Drift, Point, READINGS_AN_HOUR, UNITS};
 use crate::exact::Fraction;
 use crate::figures::grouped;
 use crate::ledger::area_allowed;
@@ -38,30 +38,26 @@ fn row(point: &Point) -> String {
     format!("| {} |\n", cells.join(" | "))
 }
 
-/// The distance that is largest in size, without its sign.
-fn largest(points: &[Point], distance: fn(&Point) -> &Fraction, digits: u32) -> String {
-    let sizes = points.iter().map(|point| distance(point).error_of(0).abs());
-    let farthest = points.iter().zip(sizes).max_by(|(_, one), (_, other)| one.total_cmp(other));
-    let text = farthest.map(|(point, _)| micro(distance(point), digits)).unwrap_or_default();
-    text.trim_start_matches('-').to_string()
+/// How far off the worst of all areas is, on each way, without its sign.
+pub fn worst(drift: &Drift) -> [String; 3] {
+    let [shown, unrounded, engine] = drift.worst_distances();
+    let cells = [micro(shown, 1), micro(unrounded, 1), micro(engine, 4)];
+    cells.map(|cell| cell.trim_start_matches('-').to_string())
 }
 
-/// The last row: the worst of all areas that were read, not only of those shown.
-fn worst(points: &[Point]) -> String {
-    let shown = largest(points, |point| &point.shown, 1);
-    let unrounded = largest(points, |point| &point.unrounded, 1);
-    let engine = largest(points, |point| &point.engine, 4);
-    let count = points.len();
-    format!("| the worst of {count} areas, in size | | | {shown} | {unrounded} | {engine} | |\n")
+/// The last row: of all areas, not only of those shown.
+fn last_row(drift: &Drift) -> String {
+    let (count, sizes) = (grouped(&drift.areas.to_string()), worst(drift).join(" | "));
+    format!("| the worst of {count} areas, in size | | | {sizes} | |\n")
 }
 
 /// The table in Markdown; everything but the first two columns is in µmol/mol s.
-pub fn text(points: &[Point]) -> String {
+pub fn text(drift: &Drift) -> String {
     let mut text = "| readings | lesson | exact area | old way, shown to 0.1: off by | \
                     old way, not rounded: off by | engine: off by | engine: proved to be within |\n"
         .to_string();
     text.push_str("|---:|---|---:|---:|---:|---:|---:|\n");
-    let wanted = points.iter().filter(|point| LENGTHS.contains(&point.readings));
+    let wanted = drift.points.iter().filter(|point| LENGTHS.contains(&point.readings));
     text.extend(wanted.map(row));
-    text + &worst(points)
+    text + &last_row(drift)
 }

@@ -44,6 +44,7 @@ impl<'a> Author<'a> {
         let count = match self.random.below(40) {
             0 => 0,
             1 | 2 => SHEETS_LIMIT as i64,
+            3..=9 => self.random.between(5, SHEETS_LIMIT as i64 - 1),
             _ => self.random.between(1, 4),
         };
         for number in 0..count {
@@ -170,11 +171,33 @@ impl<'a> Author<'a> {
         }
     }
 
-    /// The raw signal that zero and span turn into V or nearly so.
-    fn raw_for(&mut self, v: i64) -> i64 {
+    /// A signal over range: above 150,000,000 where raw, zero and span come there, or just
+    /// above what this sheet reads, by whichever ground it meets first.
+    fn over_range(&mut self, sheet: &Sheet, air: &Air) -> i64 {
+        let beyond = self.random.pick(&[1, 1, 2, 1_000]);
+        let above = rules::SIGNAL_LIMIT + beyond;
+        let within_reach = self.raw_of(sheet, air, above).is_some_and(rules::raw_within_limits);
+        if within_reach && self.random.percent(90) {
+            above
+        } else {
+            numbers::top_signal(sheet, air) + beyond
+        }
+    }
+
+    /// The raw signal that is read at this signal or nearly so, in the mode that stands;
+    /// nothing if there is no reference signal.
+    fn raw_of(&self, sheet: &Sheet, air: &Air, target: i64) -> Option<i64> {
+        let v = match self.state.mode {
+            Mode::Absolute => target,
+            Mode::Reference { cylinder, e } => {
+                let r = rules::reference_signal(sheet, cylinder, &air.with_vapour(e)).ok()?;
+                let (above_r, k) = (i128::from(target - r), i128::from(sheet.k));
+                let v = rules::near(above_r * k, k - i128::from(r));
+                v.clamp(-1_000_000_000, 1_000_000_000) as i64
+            }
+        };
         let unit = i128::from(rules::SPAN_UNIT);
-        let raw = rules::near(i128::from(v) * unit, i128::from(self.state.s)) as i64 + self.state.q;
-        self.held(raw)
+        Some(rules::near(i128::from(v) * unit, i128::from(self.state.s)) as i64 + self.state.q)
     }
 
     /// Holds a raw signal within its limits, or lets it go one beyond.
@@ -199,17 +222,17 @@ impl<'a> Author<'a> {
         Event::Sample { raw: raw as i32, p, t, e }
     }
 
-    /// A raw signal whose reading is aimed at, in the mode that stands.
+    /// A raw signal that is read at the signal aimed at, as far as raw goes.
     fn aimed_raw(&mut self, sheet: &Sheet, air: &Air) -> i64 {
-        let target = self.target(sheet, air);
-        let Mode::Reference { cylinder, e } = self.state.mode else {
-            return self.raw_for(target);
+        let target = if self.random.percent(self.profile.over) {
+            self.over_range(sheet, air)
+        } else {
+            self.target(sheet, air)
         };
-        let Ok(r) = rules::reference_signal(sheet, cylinder, &air.with_vapour(e)) else {
-            return self.any_raw();
-        };
-        let v = rules::near(i128::from(target - r) * i128::from(sheet.k), i128::from(sheet.k - r));
-        self.raw_for(v.clamp(-1_000_000_000, 1_000_000_000) as i64)
+        match self.raw_of(sheet, air, target) {
+            Some(raw) => self.held(raw),
+            None => self.any_raw(),
+        }
     }
 
     fn span(&mut self) -> Event {

@@ -1,6 +1,6 @@
 //! Invented sessions: lessons as a class would give them, the limits and one beside
-//! them, hostile kinds and padding, damaged headers and lengths, long integrations,
-//! and lists with hardly an accepted event.
+//! them, signals over range by every ground, hostile kinds, padding and fields, damaged
+//! headers and lengths, long integrations, and lists with hardly an accepted event.
 
 mod author;
 mod damage;
@@ -20,6 +20,8 @@ pub struct Profile {
     longest: i64,
     /// A number is at its limit or one beside it.
     edge: u64,
+    /// A sample's signal is over range.
+    over: u64,
     /// An event of any kind stands where a lesson would have another.
     stray: u64,
     /// A number is any that its field can hold.
@@ -36,6 +38,7 @@ const LESSON: Profile = Profile {
     shortest: 8,
     longest: 60,
     edge: 2,
+    over: 1,
     stray: 3,
     wild: 0,
     spoilt: 0,
@@ -44,12 +47,39 @@ const LESSON: Profile = Profile {
 
 pub const PROFILES: [Profile; 7] = [
     LESSON,
-    Profile { name: "limits", weight: 24, edge: 30, stray: 8, wild: 1, ..LESSON },
-    Profile { name: "hostile", weight: 12, edge: 8, stray: 10, wild: 6, spoilt: 25, ..LESSON },
-    Profile { name: "refusals", weight: 12, edge: 15, stray: 45, wild: 25, spoilt: 5, ..LESSON },
+    Profile { name: "limits", weight: 24, edge: 30, over: 12, stray: 8, wild: 1, ..LESSON },
+    Profile {
+        name: "hostile",
+        weight: 12,
+        edge: 8,
+        over: 4,
+        stray: 10,
+        wild: 6,
+        spoilt: 25,
+        ..LESSON
+    },
+    Profile {
+        name: "refusals",
+        weight: 12,
+        edge: 15,
+        over: 20,
+        stray: 45,
+        wild: 25,
+        spoilt: 5,
+        ..LESSON
+    },
     Profile { name: "noise", weight: 7, shortest: 0, wild: 100, stray: 100, spoilt: 60, ..LESSON },
     Profile { name: "damaged file", weight: 10, shortest: 0, longest: 12, damaged: 90, ..LESSON },
-    Profile { name: "long", weight: 1, shortest: 600, longest: 2_700, edge: 0, stray: 0, ..LESSON },
+    Profile {
+        name: "long",
+        weight: 1,
+        shortest: 600,
+        longest: 2_700,
+        edge: 0,
+        over: 0,
+        stray: 0,
+        ..LESSON
+    },
 ];
 
 /// A made session file with the name of its profile.

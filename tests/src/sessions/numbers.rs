@@ -35,12 +35,30 @@ fn far_sheet(random: &mut Random) -> SheetRecord {
     }
 }
 
+/// A sheet whose K is met before any other end of its range.
+fn narrow_sheet(random: &mut Random) -> SheetRecord {
+    SheetRecord { k: random.between(10_000_000, 20_000_000) as u32, ..usual_sheet(random) }
+}
+
+/// A sheet so flat that z comes to 10^8 before any other end of its range is met.
+fn flat_sheet(random: &mut Random) -> SheetRecord {
+    SheetRecord {
+        a1: random.between(1, 100_000_000) as i32,
+        a2: random.between(0, 5_000_000) as i32,
+        a3: random.between(0, 500_000) as i32,
+        k: random.between(130_000_000, 400_000_000) as u32,
+        ..usual_sheet(random)
+    }
+}
+
 pub fn good_sheet(random: &mut Random) -> SheetRecord {
-    match random.below(6) {
+    match random.below(10) {
         0 => bench::sheet(),
         1 => bench::table_sheet(),
-        2 | 3 => usual_sheet(random),
-        _ => far_sheet(random),
+        2 => usual_sheet(random),
+        3 | 4 => far_sheet(random),
+        5 | 6 => narrow_sheet(random),
+        _ => flat_sheet(random),
     }
 }
 

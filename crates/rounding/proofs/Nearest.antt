@@ -1,6 +1,6 @@
 -- The laws of `nearest`, by which the crates above know it: within half a step, monotone, exact at multiples, zero at zero,
 -- the sign kept, no larger than a whole bound; and what the code computes at each sign. Above this file only the bench cases
--- unfold it, to compute a figure (`Bench.antt` of curve, reference and engine, `Example.antt` of ledger). Assumes nothing.
+-- unfold it, to compute a figure (`Bench.antt` of curve, reference and engine). Assumes nothing.
 use mathlib.Core.Path.{_≡_, refl, subst}
 use mathlib.Core.Bool.{true, false}
 use Prim.Native.Nat.{ℕ, zero, suc, _+_, _*_, _-_, _/_, _≤_, _<_}

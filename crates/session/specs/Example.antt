@@ -3,38 +3,30 @@
 use Prim.Native.Nat.{ℕ}
 use mathlib.Core.List.{List, [], _∷_, _++_}
 use mathlib.Core.Path.{_≡_}
-use lib.IntN.{pos}
-use Rattle.layout.specs.declared.SheetRecord.{SheetRecord}
-use Rattle.layout.specs.declared.EventRecord.{EventRecord}
-use Rattle.layout.specs.Fields.{u32Bytes}
-use Rattle.layout.specs.Records.{sheetBytes, eventBytes}
+use Rattle.ledger.specs.Example.{word, exampleSheets}
 use Rattle.session.specs.Text.{printedOf}
 
--- one sheet of the bench cases: A1 150,000,000, A2 5,000,000, A3 5,000,000, T0 29,815, K 200,000,000
-abbrev pub exampleSheet : SheetRecord
-exampleSheet = record { a1 = pos 150000000; a2 = pos 5000000; a3 = pos 5000000; t0 = 29815; k = 200000000; rest = 0 }
+abbrev pub zeroWord : List ℕ
+zeroWord = word 0 0 0 0
 
--- load 0
-abbrev pub exampleLoad : EventRecord
-exampleLoad = record { kind = 1; pad = 0; raw = pos 0; cylinder = 0; p = 0; t = 0; e = 0 }
+-- one sheet from byte 16 on, and four events from byte 40 on; the header has these four numbers
+abbrev pub exampleHeader : List ℕ
+exampleHeader = word 1 0 0 0 ++ word 16 0 0 0 ++ word 4 0 0 0 ++ word 40 0 0 0
 
--- reference C 1,000,000,000 e 0
-abbrev pub exampleReference : EventRecord
-exampleReference = record { kind = 4; pad = 0; raw = pos 0; cylinder = 1000000000; p = 0; t = 0; e = 0 }
+-- an event: kind and three zero bytes; raw; C; P; T; e
+abbrev pub exampleEvents : List ℕ
+exampleEvents =
+    -- load 0
+    word 1 0 0 0 ++ zeroWord ++ zeroWord ++ zeroWord ++ zeroWord ++ zeroWord
+    -- reference C 1,000,000,000 e 0
+    ++ word 4 0 0 0 ++ zeroWord ++ word 0 202 154 59 ++ zeroWord ++ zeroWord ++ zeroWord
+    -- sample raw 10,000,000 at P 101,300 T 29,815 e 0
+    ++ word 6 0 0 0 ++ word 128 150 152 0 ++ zeroWord ++ word 180 139 1 0 ++ word 119 116 0 0 ++ zeroWord
+    -- area
+    ++ word 9 0 0 0 ++ zeroWord ++ zeroWord ++ zeroWord ++ zeroWord ++ zeroWord
 
--- sample raw 10,000,000 at P 101,300 T 29,815 e 0
-abbrev pub exampleSample : EventRecord
-exampleSample = record { kind = 6; pad = 0; raw = pos 10000000; cylinder = 0; p = 101300; t = 29815; e = 0 }
-
--- area
-abbrev pub exampleArea : EventRecord
-exampleArea = record { kind = 9; pad = 0; raw = pos 0; cylinder = 0; p = 0; t = 0; e = 0 }
-
--- one sheet from byte 16 on, and four events from byte 40 on
 abbrev pub exampleFile : List ℕ
-exampleFile =
-    u32Bytes 1 ++ u32Bytes 16 ++ u32Bytes 4 ++ u32Bytes 40 ++ sheetBytes exampleSheet
-    ++ eventBytes exampleLoad ++ eventBytes exampleReference ++ eventBytes exampleSample ++ eventBytes exampleArea
+exampleFile = exampleHeader ++ exampleSheets ++ exampleEvents
 
 -- in ASCII: 32 is the space, 10 the line feed, 48 to 57 the digits 0 to 9
 abbrev pub exampleText : List ℕ

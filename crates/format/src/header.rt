@@ -2,7 +2,7 @@
 ghost use mathlib.Core.Path.{_≡_};
 ghost use Prim.Native.Nat.{_≤_};
 ghost use lib.ListN.{length};
-ghost use Rattle.format.specs.Header.{sheetCount, eventCount, wellFormed};
+ghost use Rattle.format.specs.Header.{sheetCount, eventCount, firstEvent, wellFormed};
 use layout::fields::u32_at;
 
 // How many sheets the header says.
@@ -19,6 +19,14 @@ pub fn event_count(file: &[u8]) -> usize
     ensures { λ r. ⌜ r ≡ eventCount (now (file .entry)) ⌝ }
 {
     u32_at(file, 8) as usize
+}
+
+// Where the first event stands: after the sheets.
+pub fn first_event(file: &[u8]) -> usize
+    requires { ⌜ 16 ≤ length (now file) ⌝ }
+    ensures { λ r. ⌜ r ≡ firstEvent (now (file .entry)) ⌝ }
+{
+    16 + 24 * u32_at(file, 0) as usize
 }
 
 // The counts are within their limits, the offsets are what they must be, and the file ends with its last event.

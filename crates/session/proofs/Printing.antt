@@ -7,18 +7,18 @@ use mathlib.Core.List.{List, _++_}
 use lib.ListN.{length, take, drop, length-append}
 use mathlib.Core.Bool.{Bool, true, false}
 use borrow.Author.Tests.{le-leb, lt-leb, ne-eqb}
-use Rattle.layout.specs.declared.EventRecord.{EventRecord}
 use Rattle.layout.specs.declared.AnswerRecord.{AnswerRecord}
 use Rattle.layout.specs.Fields.{splice}
-use Rattle.layout.specs.Records.{eventAt}
 use Rattle.layout.proofs.Splices.{splice-none}
 use Rattle.layout.proofs.Splices.{next as splice-next}
 use Rattle.engine.specs.declared.State.{State}
 use Rattle.engine.specs.declared.Stepped.{Stepped}
 use Rattle.engine.specs.Rules.{fresh}
 use Rattle.engine.specs.Step.{stepOf}
-use Rattle.format.specs.Header.{sheetCount, eventCount, wellFormed, eventsFrom}
+use Rattle.format.specs.Header.{sheetCount, eventCount, firstEvent, wellFormed, eventsFrom}
 use Rattle.format.specs.Entries.{entryOf}
+use Rattle.format.specs.Reader.{yieldedAt}
+use Rattle.format.specs.declared.reader.Yielded.{Yielded}
 use Rattle.session.specs.Run.{recordOf, answersFrom}
 use Rattle.text.specs.Line.{decimal, signedDecimal, lineOf, lineRoom}
 use Rattle.session.specs.Text.{linesFrom, refusedLine, linesOf, printedOf, linesStatus, linesWritten, linesOutput}
@@ -29,42 +29,43 @@ use Rattle.session.proofs.Outcome.{status-0, served}
 abbrev pub textFrom : List ℕ → State → List ℕ → ℕ → ℕ → ℕ → List ℕ
 textFrom sheets st file at count ordinal = linesFrom ordinal (answersFrom sheets st (eventsFrom file at count))
 
--- i of n events have their lines, up to the position `at`; `out` was `out₀`, and the engine is at `st`
-pub record Printing (sheets file : List ℕ) (from n : ℕ) (out₀ out : List ℕ) (st : State) (at i : ℕ) : Type 0 where
+-- i of n events have their lines, up to the position `at`; `out` was `out₀`, the engine is at `st`, and the reader at `place`
+pub record Printing (sheets file : List ℕ) (from n : ℕ) (out₀ out : List ℕ) (st : State) (place at i : ℕ) : Type 0 where
   pub passed : i ≤ n
+  pub stands : place ≡ from + 24 * i
   pub kept : length out ≡ length out₀
   pub room : at ≤ lineRoom * i
-  pub ends : at + length (textFrom sheets st file (from + 24 * i) (n - i) (i + 1)) ≡ length (textFrom sheets fresh file from n 1)
-  pub whole : splice out at (textFrom sheets st file (from + 24 * i) (n - i) (i + 1)) ≡ splice out₀ 0 (textFrom sheets fresh file from n 1)
+  pub ends : at + length (textFrom sheets st file place (n - i) (i + 1)) ≡ length (textFrom sheets fresh file from n 1)
+  pub whole : splice out at (textFrom sheets st file place (n - i) (i + 1)) ≡ splice out₀ 0 (textFrom sheets fresh file from n 1)
 
 module _ {sheets file : List ℕ} {from n : ℕ} {out₀ : List ℕ} where
-  pub printing : Printing sheets file from n out₀ out₀ fresh 0 0
+  pub printing : Printing sheets file from n out₀ out₀ fresh from 0 0
   printing =
-      let p : from + 24 * 0 ≡ from = omega arith in
       let m : n - 0 ≡ n = omega arith in
-      record { passed = omega arith; kept = refl; room = omega arith; ends = rw (p, m) (omega arith); whole = rw (p, m) }
+      record { passed = omega arith; stands = omega arith; kept = refl; room = omega arith; ends = rw m (omega arith); whole = rw m }
 
-  module _ {out : List ℕ} {st : State} {at i : ℕ} (a : Printing sheets file from n out₀ out st at i) where
+  module _ {out : List ℕ} {st : State} {place at i : ℕ} (a : Printing sheets file from n out₀ out st place at i) where
     -- what one event adds
-    more : {r : EventRecord} {s : Stepped} → i < n → r ≡ eventAt file (from + 24 * i) → s ≡ stepOf sheets st (entryOf r)
-        → textFrom sheets st file (from + 24 * i) (n - i) (i + 1)
-        ≡ lineOf (i + 1) (recordOf (r .kind) (s .answer)) ++ textFrom sheets (s .state) file (from + 24 * (i + 1)) (n - (i + 1)) (i + 1 + 1)
+    more : {y : Yielded} {s : Stepped} → i < n → y ≡ yieldedAt file place → s ≡ stepOf sheets st (entryOf (y .event))
+        → textFrom sheets st file place (n - i) (i + 1)
+        ≡ lineOf (i + 1) (recordOf (y .event .kind) (s .answer)) ++ textFrom sheets (s .state) file (y .at) (n - (i + 1)) (i + 1 + 1)
     more h e f =
         let m : n - i ≡ suc (n - (i + 1)) = omega arith in
-        let p : from + 24 * (i + 1) ≡ from + 24 * i + 24 = omega arith in
-        rw (m, p, f, e)
+        rw (m, f, e)
 
-    pub printed : {r : EventRecord} {s : Stepped} {b : AnswerRecord} {out′ : List ℕ} {at′ : ℕ} → lineRoom * n ≤ length out₀ → i < n
-        → r ≡ eventAt file (from + 24 * i) → s ≡ stepOf sheets st (entryOf r) → b ≡ recordOf (r .kind) (s .answer)
+    pub printed : {y : Yielded} {s : Stepped} {b : AnswerRecord} {out′ : List ℕ} {at′ : ℕ} → lineRoom * n ≤ length out₀ → i < n
+        → y ≡ yieldedAt file place → s ≡ stepOf sheets st (entryOf (y .event)) → b ≡ recordOf (y .event .kind) (s .answer)
         → at′ ≡ at + length (lineOf (i + 1) b) → out′ ≡ splice out at (lineOf (i + 1) b) → length (lineOf (i + 1) b) ≤ lineRoom → length out′ ≡ length out
-        → Printing sheets file from n out₀ out′ (s .state) at′ (i + 1)
-    printed {r} {s} {b} {out′} {at′} fits h e f g q o l k =
-        let rest = textFrom sheets (s .state) file (from + 24 * (i + 1)) (n - (i + 1)) (i + 1 + 1) in
+        → Printing sheets file from n out₀ out′ (s .state) (y .at) at′ (i + 1)
+    printed {y} {s} {b} {out′} {at′} fits h e f g q o l k =
+        let rest = textFrom sheets (s .state) file (y .at) (n - (i + 1)) (i + 1 + 1) in
         let line = lineOf (i + 1) b in
-        let d : textFrom sheets st file (from + 24 * i) (n - i) (i + 1) ≡ line ++ rest = rw g (more h e f) in
-        let j = a .kept in let z = a .room in
+        let d : textFrom sheets st file place (n - i) (i + 1) ≡ line ++ rest = rw g (more h e f) in
+        let p : y .at ≡ place + 24 = rw e in
+        let j = a .kept in let z = a .room in let x = a .stands in
         record {
           passed = omega arith;
+          stands = omega arith;
           kept = omega arith;
           room = omega arith;
           ends = rw q (let w = rw d at (a .ends) in omega (arith, length-append line rest));
@@ -87,14 +88,14 @@ module _ (file out : List ℕ) where
   unfolding linesWritten linesOutput
   lines-refused {status} e h = (e, (rw (← e, ne-eqb status 0 h), (rw (← e, ne-eqb status 0 h), omega arith)))
 
-  -- with the counts as the code has them
-  pub lines-put : {status sheets events written : ℕ} {out′ : List ℕ} → status ≡ linesStatus file (length out) → status ≡ 0 → sheets ≡ sheetCount file → events ≡ eventCount file
-      → written ≡ length (textFrom (take (16 + 24 * sheets - 16) (drop 16 file)) fresh file (16 + 24 * sheets) events 1)
-      → out′ ≡ splice out 0 (textFrom (take (16 + 24 * sheets - 16) (drop 16 file)) fresh file (16 + 24 * sheets) events 1)
+  -- with the numbers as the code has them
+  pub lines-put : {status from events written : ℕ} {out′ : List ℕ} → status ≡ linesStatus file (length out) → status ≡ 0 → from ≡ firstEvent file → events ≡ eventCount file
+      → written ≡ length (textFrom (take (from - 16) (drop 16 file)) fresh file from events 1)
+      → out′ ≡ splice out 0 (textFrom (take (from - 16) (drop 16 file)) fresh file from events 1)
       → written ≤ length out′ → Ends file out status written out′
   unfolding linesWritten linesOutput
-  lines-put {status} {sheets} e z s n l o h =
-      let m : 16 + 24 * sheets - 16 ≡ 24 * sheets = omega arith in
+  lines-put {status} {from} e z s n l o h =
+      let m : from - 16 ≡ 24 * sheetCount file = omega (arith, s) in
       (e, (l ∙ rw (← e, z, m, s, n), (o ∙ rw (← e, z, m, s, n), h)))
 
 -- ---- what the program prints, in its three cases

@@ -15,8 +15,8 @@ use engine::fresh_state;
 use engine::step;
 use format::entries::entry_of;
 use format::header::event_count;
-use format::header::sheet_count;
-use format::reader::event_from;
+use format::reader::first;
+use format::reader::next_from;
 use layout::AnswerRecord;
 use text::put_line;
 
@@ -47,7 +47,7 @@ pub fn lines(file: &[u8], out: &mut [u8]) -> Ran
         return Ran { status, written: 0 };
     }
     let events = event_count(file);
-    let from = 16 + 24 * sheet_count(file);
+    let from = first(file);
     let written = print_all(&file[16..from], file, from, events, out);
     Ran { status, written }
 }
@@ -58,14 +58,17 @@ fn print_all(sheets: &[u8], file: &[u8], from: usize, events: usize, out: &mut [
     ensures { λ r. ⌜ (r ≡ length (linesFrom 1 (answersFrom (now (sheets .entry)) fresh (eventsFrom (now (file .entry)) from events)))) × (now (out .exit) ≡ splice (now (out .entry)) 0 (linesFrom 1 (answersFrom (now (sheets .entry)) fresh (eventsFrom (now (file .entry)) from events)))) × (r ≤ lineRoom * events) ⌝ }
 {
     let mut state = fresh_state();
+    let mut position = from;
     let mut at = 0;
     let mut i: usize = 0;
     while i < events {
-        let event = event_from(file, from + 24 * i);
+        let read = next_from(file, position);
+        let event = read.event;
         let next = step(sheets, state, entry_of(event));
         let answer = next.answer;
         at = put_line(out, at, i as u32 + 1, record_of(event.kind, answer));
         state = next.state;
+        position = read.at;
         i += 1;
     }
     at

@@ -20,14 +20,8 @@ has c = served 72 _ _ (c .before .status-for .ensures) (c .if1 .left)
 event-count-requires : tie.Need-event-count-requires
 event-count-requires c κs = has c .shape .header
 
-sheet-count-requires : tie.Need-sheet-count-requires
-sheet-count-requires c κs = has (c .before) .shape .header
-
-mul-from : tie.Need-mul-from
-mul-from c = omega (arith, has (c .before .before) .shape, c .sheet-count .ensures)
-
-add-from : tie.Need-add-from
-add-from c = omega (arith, has (c .before .before) .shape, c .sheet-count .ensures)
+first-requires : tie.Need-first-requires
+first-requires c κs = has (c .before) .shape .header
 
 sub-print-all : tie.Need-sub-print-all
 sub-print-all c = search needs
@@ -36,13 +30,16 @@ part-print-all-start : tie.Need-part-print-all-start
 part-print-all-start c = search needs
 
 part-print-all-end : tie.Need-part-print-all-end
-part-print-all-end c = omega (arith, has (c .before .before) .shape, c .sheet-count .ensures)
+part-print-all-end c = omega (arith, has (c .before .before) .shape, c .first .ensures)
 
 print-all-requires : tie.Need-print-all-requires
 print-all-requires c κs =
     let b = c .before .before in
-    let h = has (b .before .before) in
-    (omega (arith, h .shape, h .holds, b .sheet-count .ensures, b .before .event-count .ensures), omega (arith, h .shape, h .holds, b .before .event-count .ensures), omega (arith, h .shape, h .holds, b .before .event-count .ensures))
+    let h = has (b .before .before) in (
+      omega (arith, h .shape, h .holds, b .first .ensures, b .before .event-count .ensures),
+      omega (arith, h .shape, b .before .event-count .ensures),
+      omega (arith, h .holds, b .before .event-count .ensures),
+    )
 
 same-length : tie.Need-same-length
 same-length c = search needs
@@ -53,7 +50,7 @@ returns-2 c =
     let d = b .before .before in
     let e = c .before .before .print-all .ensures in
     lines-put _ (d .before .before .before .before .args .out .now) (d .before .status-for .ensures) (d .if1 .left)
-    (b .sheet-count .ensures) (b .before .event-count .ensures) (e .0) (e .1) (omega (arith, e .2, has d .holds, b .before .event-count .ensures))
+    (b .first .ensures) (b .before .event-count .ensures) (e .0) (e .1) (omega (arith, e .2, has d .holds, b .before .event-count .ensures))
 
 pub lines-spec : {M : Type 1} → statement M
 lines-spec =
@@ -62,9 +59,7 @@ lines-spec =
     status-for-requires
     returns
     event-count-requires
-    sheet-count-requires
-    mul-from
-    add-from
+    first-requires
     sub-print-all
     part-print-all-start
     part-print-all-end

@@ -1,5 +1,6 @@
 -- `session::print::print_all` meets its contract. Its loop has the invariant `Printing`, and every answer's m fits. Assumes
 -- nothing.
+use native.Mathlib.Omega.{arith}
 use mathlib.Core.Path.{ap, _∙_}
 use Rattle.engine.specs.Step.{stepOf}
 use borrow.Author.Needs.{needs}
@@ -10,10 +11,10 @@ use Rattle.session.proofs.print.print_all.Statement.{statement}
 use Rattle.session.proofs.print.print_all.Tie as tie
 
 abbrev Inv-loop : tie.InvT-loop
-Inv-loop sheets file from events out₀ state₀ at₀ i₀ out state at i = Printing sheets file from events out₀ out state at i
+Inv-loop sheets file from events out₀ state₀ position₀ at₀ i₀ out state position at i = Printing sheets file from events out₀ out state position at i
 
 abbrev μ-loop : tie.MeasureT-loop
-μ-loop sheets file from events out₀ state₀ at₀ i₀ out state at i = events - i
+μ-loop sheets file from events out₀ state₀ position₀ at₀ i₀ out state position at i = events - i
 
 fresh-state-requires : tie.Need-fresh-state-requires Inv-loop μ-loop
 fresh-state-requires c κs = search needs
@@ -21,14 +22,8 @@ fresh-state-requires c κs = search needs
 loop-holds : tie.Need-loop-holds Inv-loop μ-loop
 loop-holds c = rw (c .fresh-state .ensures) printing
 
-mul-event-from : tie.Need-mul-event-from Inv-loop μ-loop
-mul-event-from c = search needs
-
-add-event-from : tie.Need-add-event-from Inv-loop μ-loop
-add-event-from c = search needs
-
-event-from-requires : tie.Need-event-from-requires Inv-loop μ-loop
-event-from-requires c κs = search needs
+next-from-requires : tie.Need-next-from-requires Inv-loop μ-loop
+next-from-requires c κs = search needs
 
 entry-of-requires : tie.Need-entry-of-requires Inv-loop μ-loop
 entry-of-requires c κs = search needs
@@ -49,7 +44,9 @@ put-line-requires : tie.Need-put-line-requires Inv-loop μ-loop
 put-line-requires c κs = search needs
 
 add-i : tie.Need-add-i Inv-loop μ-loop
-add-i c = search needs
+add-i c =
+    let t = c .before .before .before .before .before .before .before .before .before .before in
+    omega (arith, t .loop-test .taken, t .before .before .before .before .before .before .fits .events)
 
 loop-less : tie.Need-loop-less Inv-loop μ-loop
 loop-less c = search needs
@@ -58,9 +55,9 @@ loop-again : tie.Need-loop-again Inv-loop μ-loop
 loop-again c =
     let a = c .before .before .before in
     let b = a .before .before .before in
-    let d = b .before .before in
+    let d = b .before .before .before in
     let l = d .before .before in
-    printed (l .loop .inv) (l .before .before .before .before .before .pre .2) (d .before .loop-test .taken) (d .event-from .ensures)
+    printed (l .loop .inv) (l .before .before .before .before .before .pre .2) (d .before .loop-test .taken) (d .next-from .ensures)
     (b .step .ensures ∙ ap (stepOf _ _) (b .before .entry-of .ensures)) (a .before .record-of .ensures) (a .put-line .ensures .0) (a .put-line .ensures .1)
     (a .put-line .ensures .2) (search needs)
 
@@ -78,9 +75,7 @@ print-all-spec =
     μ-loop
     fresh-state-requires
     loop-holds
-    mul-event-from
-    add-event-from
-    event-from-requires
+    next-from-requires
     entry-of-requires
     step-requires
     cast-put-line

@@ -394,7 +394,7 @@ fn distances_from_the_exact_equation() {
         ),
         format!("its dry value within {dry};"),
         format!("at least the cylinder less {cylinder}, and one unit lower less than the cylinder"),
-        format!("plus {cylinder};"),
+        format!("less than the cylinder plus {cylinder} "),
         format!("within {against} (4n − 2) of the exact area"),
     ] {
         assert_says(&sentence);

@@ -4,7 +4,8 @@
  * event's ordinal in the session.
  *
  * Exit status: 0 the file was accepted, 1 it was refused, 2 it could not be read or the
- * lines could not be written.
+ * lines could not be written. A pipe that nobody reads any more ends it by SIGPIPE, unless
+ * that signal is ignored.
  */
 #include <errno.h>
 #include <stdio.h>
@@ -92,7 +93,7 @@ static int print_lesson(const char *name, size_t length) {
     }
     for (at = 0; at < written; at += IRGA_RECORD_BYTES)
         print_answer((unsigned long)(at / IRGA_RECORD_BYTES) + 1, answers + at);
-    /* A full disk or a closed pipe may show only when the last line leaves. */
+    /* A full disk may show only when the last line leaves. */
     errno = 0;
     if (fflush(stdout) != 0 || ferror(stdout))
         return trouble("write", "the readings");

@@ -31,6 +31,12 @@ fn what_is_no_session_is_refused_with_status_0() {
     }
 }
 
+#[test]
+fn a_session_without_events_prints_nothing() {
+    let empty = [0u32, 16, 0, 16].map(u32::to_le_bytes).concat();
+    assert_eq!(Executable::under_test().print(&empty).as_deref(), Ok(&[][..]));
+}
+
 /// A folder can be opened and not read.
 #[test]
 fn an_input_that_cannot_be_read_is_refused_with_status_0() {
@@ -66,10 +72,10 @@ fn a_pipe_that_nobody_reads_ends_the_program_by_a_signal() {
 #[test]
 fn readme_says_how_it_ends() {
     let page = in_one_line(include_str!("../../README.md"));
-    let by_signal =
-        format!("ends it otherwise, by the signal SIGPIPE ({} in a shell).", 128 + BROKEN_PIPE);
+    let by_signal = format!("as SIGPIPE does ({} in a shell)", 128 + BROKEN_PIPE);
     for sentence in [
-        "A file that it refuses, an empty one, or an input that cannot be read gives the one line",
+        "A file that it refuses, one of 0 bytes, or an input that cannot be read gives the one line",
+        "a session without events prints nothing.",
         "Its exit status is 0 in these cases too, and when its output cannot be written,",
         &by_signal,
     ] {

@@ -60,7 +60,7 @@ fn the_sixth_line_of_the_lesson() {
 
 #[test]
 fn the_line_of_a_refused_file() {
-    assert_says(&format!("gives the one line `{}`.", file::program(&[]).trim_end()));
+    assert_says(&format!("gives the one line `{}`;", file::program(&[]).trim_end()));
 }
 
 #[test]
@@ -286,9 +286,9 @@ fn limits_of_room_and_signal() {
     assert_says("10 e at most P |");
     let damp = |e: i64| Air { p: 100_000, e, ..bench::AIR }.within_limits();
     assert!(damp(10_000) && !damp(10_001));
-    assert_limits("| signal | raw ", rules::raw_within_limits);
+    assert_limits("| signal | raw of a span or a sample ", rules::raw_within_limits);
     let zero = |raw: i64| refusal_after_load(Event::Zero { raw: raw as i32 }) != 3;
-    assert_limits("150,000,000, zero ", zero);
+    assert_limits("150,000,000, of a zero ", zero);
 }
 
 #[test]
@@ -323,11 +323,14 @@ fn numbers_of_the_rules() {
     for sentence in [
         format!("A load sets the zero to 0, the span to {unit} and absolute mode;"),
         format!("counts each accepted sample; its {readings}th is counted and closes it."),
-        format!("with R the least signal from 0 to {signal} that reads the cylinder"),
+        format!("with R the least signal from 0 to {signal} whose reading"),
         format!("D = {pressure} P + {vapour} e: z = near({} V / D)", number(100 * rules::P0)),
         format!("the least S from {lowest} to {highest} under which"),
         format!("| zero beyond {zero} on either side |"),
-        format!("no span from {lowest} to {highest} reads the cylinder, or one below {lowest}"),
+        format!(
+            "no span from {lowest} to {highest} has an accepted reading of the cylinder or more,"
+        ),
+        format!("or {} has one too |", number(rules::SPAN_LOWEST - 1)),
         format!("over range: the signal above {signal} or not below K, z above 10^8,"),
         format!("or the wet value above {wet} |"),
     ] {
@@ -369,10 +372,10 @@ fn refusals_and_their_order() {
         (Refusal::ZeroOutsideRange, "zero beyond"),
         (Refusal::CylinderOutsideRange, "cylinder outside its limits,"),
         (Refusal::NoSpanServes, "no span from"),
-        (Refusal::InputOutsideLimits, "raw, P, T or e outside its limits;"),
+        (Refusal::InputOutsideLimits, "of a span or a sample: raw, P, T or e outside its limits;"),
         (Refusal::BelowZero, "the signal is below zero"),
         (Refusal::OverRange, "over range:"),
-        (Refusal::NoReferenceSignal, "no signal reads the reference cylinder"),
+        (Refusal::NoReferenceSignal, "no signal has an accepted reading of the reference cylinder"),
         (Refusal::NotNow, "span against a reference;"),
         (Refusal::MalformedEvent, "unknown kind,"),
         (Refusal::MalformedFile, "header or length"),

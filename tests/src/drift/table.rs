@@ -23,9 +23,16 @@ fn micro(area: &Fraction, digits: u32) -> String {
     grouped(&area.times(&Fraction::of(1, UNITS)).decimal(digits))
 }
 
+/// What is proved of an area of so many readings, in tenths of 1 µmol/mol s and rounded up: a
+/// bound that is cut would say more than is proved.
+fn allowed(readings: u32) -> String {
+    let tenth = UNITS / 10;
+    let tenths = (area_allowed(u64::from(readings)) + tenth - 1) / tenth;
+    grouped(&format!("{}.{}", tenths / 10, tenths % 10))
+}
+
 fn row(point: &Point) -> String {
     let readings = point.readings;
-    let allowed = Fraction::whole(area_allowed(u64::from(readings)));
     let cells = [
         grouped(&readings.to_string()),
         lesson(readings),
@@ -33,7 +40,7 @@ fn row(point: &Point) -> String {
         micro(&point.shown, 1),
         micro(&point.unrounded, 1),
         micro(&point.engine, 4),
-        micro(&allowed, 1),
+        allowed(readings),
     ];
     format!("| {} |\n", cells.join(" | "))
 }

@@ -395,8 +395,10 @@ fn distances_from_the_exact_equation() {
         format!(
             "within {absolute} pmol/mol of equation (11) in exact fractions, {against} against"
         ),
-        format!("its dry value within {dry};"),
-        format!("at least the cylinder less {cylinder}, and one unit lower less than the cylinder"),
+        format!("its dry value within {dry} of that exact value times P / (P − e)."),
+        format!(
+            "at least the cylinder less {cylinder}, and one unit lower, if that signal isn't 0,"
+        ),
         format!("less than the cylinder plus {cylinder} "),
         format!("within {against} (4n − 2) of the exact area"),
     ] {

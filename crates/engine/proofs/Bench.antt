@@ -1,6 +1,6 @@
 -- The starred cases hold: what the searches find is taken from the crates below, the rest is computed. Assumes nothing.
-use mathlib.Core.List.{List, [], _∷_}
-use mathlib.Core.Path.{_≡_, refl, ap, _∙_}
+use mathlib.Core.List.{[], _∷_}
+use mathlib.Core.Path.{_≡_, refl, sym, ap, subst, _∙_}
 use native.Mathlib.Omega.{arith}
 use lib.IntN.{ℤ, pos, _+ℤ_, _-ℤ_, _*ℤ_}
 use Rattle.rounding.specs.Near.{nearest}
@@ -13,13 +13,12 @@ use Rattle.reference.specs.Signal.{signalOf, againstOf}
 use Rattle.reference.proofs.Bench.{starred-references}
 use Rattle.engine.specs.declared.State.{State}
 use Rattle.engine.specs.declared.Integration.{Integration}
-use Rattle.engine.specs.declared.Entry.{Entry}
 use Rattle.engine.specs.declared.Answer.{Answer}
 use Rattle.engine.specs.declared.Stepped.{Stepped}
 use Rattle.engine.specs.Sample.{sampledOf}
 use Rattle.engine.specs.Integration.{emptyTally, countedOf, areaAnswer}
 use Rattle.engine.specs.Rules.{answered, withIntegration, spanBy, rules}
-use Rattle.engine.specs.Bench.{benchState, referenceState, sample, start, area, after, StarredCases}
+use Rattle.engine.specs.Bench.{benchState, referenceState, countedOnce, sample, start, area, Answers, after, StarredCases}
 
 -- 2X less nothing, where n − 1 is 0
 one : (x : ℤ) → (pos 0 +ℤ x) *ℤ pos 2 -ℤ (x +ℤ x) *ℤ pos 0 ≡ x *ℤ pos 2
@@ -47,16 +46,12 @@ counted-1 = countedOf (Integration.Running emptyTally) (pos 1000000000)
 abbrev counted-2 : Integration
 counted-2 = countedOf counted-1 (pos 1388160000)
 
--- the area after some entries
-abbrev areaAfter : List Entry → Stepped → Answer
-areaAfter entries x = rules [] (after (x .state) entries) area .answer
-
-three : rules [] (after referenceState (start ∷ sample (pos 0) ∷ sample (pos 10000000) ∷ sample (pos 0) ∷ [])) area .answer ≡ Answer.Area 3 (pos 2776320000)
-unfolding areaAnswer
-three =
-    ap (areaAfter (sample (pos 10000000) ∷ sample (pos 0) ∷ [])) (low (Integration.Running emptyTally))
-    ∙ ap (areaAfter (sample (pos 0) ∷ [])) (high counted-1)
-    ∙ ap (areaAfter []) (low counted-2)
+-- the state after a start and the three readings
+three-state : after referenceState (start ∷ sample (pos 0) ∷ sample (pos 10000000) ∷ sample (pos 0) ∷ []) ≡ counting (countedOf counted-2 (pos 1000000000))
+three-state =
+    ap (λ (x : Stepped). after (x .state) (sample (pos 10000000) ∷ sample (pos 0) ∷ [])) (low (Integration.Running emptyTally))
+    ∙ ap (λ (x : Stepped). after (x .state) (sample (pos 0) ∷ [])) (high counted-1)
+    ∙ ap (λ (x : Stepped). x .state) (low counted-2)
 
 pub starred-cases : StarredCases
 unfolding sampledOf areaAnswer airWithin absoluteOf signalOf againstOf nearest reducedOf slope2Of slope1Of cubicOf moistOf warmOf wetOf dryOf
@@ -73,7 +68,7 @@ starred-cases =
       t-30411 = refl;
       e-2000 = refl;
       e-10001 = refl;
-      e-10000 = refl;
+      e-10000 = (refl, refl);
       reference = refl;
       raw-0 = low Integration.Idle;
       raw-10000000 = high Integration.Idle;
@@ -84,6 +79,7 @@ starred-cases =
       span-beyond = rw (starred-references .span-beyond);
       span-500000 = ap (spanBy benchState) (starred-references .span-500000);
       span-below = rw (starred-references .span-below);
-      three-readings = three;
-      one-reading = λ x. ap (Answer.Area 1) (one x);
+      three-readings = subst (λ (st : State). Answers st area (Answer.Area 3 (pos 2776320000))) (sym three-state) refl;
+      one-sample = refl;
+      one-reading = λ x. ap (λ (y : ℤ). answered (Answer.Area 1 y) (countedOnce x)) (one x);
     }

@@ -38,6 +38,10 @@ referenceState = idleWith (Loaded.One benchSheet) (pos 0) 1000000 referenceMode
 abbrev pub smallState : State
 smallState = idleWith (Loaded.One smallSheet) (pos 0) 1000000 referenceMode
 
+-- the bench sheet, after a start, X counted
+abbrev pub countedOnce : ℤ → State
+countedOnce x = withIntegration benchState (countedOf (Integration.Running emptyTally) x)
+
 -- ---- entries
 
 -- raw at P, T, e; with Q 0 and S 1,000,000 the signal V of an absolute reading is raw
@@ -69,6 +73,10 @@ Answers st entry a = rules [] st entry ≡ answered a st
 abbrev pub AnswersLeaving : State → Entry → Answer → State → Type 0
 AnswersLeaving st entry a next = rules [] st entry ≡ answered a next
 
+-- the entry is accepted, whatever its values, and leaves the state
+abbrev pub Passes : State → Entry → Type 0
+Passes st entry = (refusalOf (rules [] st entry .answer) ≡ 0) × (rules [] st entry .state ≡ st)
+
 -- the state after some entries
 abbrev pub after : State → List Entry → State
 after st [] = st
@@ -90,7 +98,7 @@ pub record StarredCases : Type 0 where
   -- P 100,000, V 40,456,000: e 2,000; e 10,001 is refusal 6, 10,000 passes
   pub e-2000 : Answers benchState (sampleIn (pos 40456000) 100000 29815 2000) (Answer.Reading 0 (pos 1034193379) (pos 1055299366))
   pub e-10001 : Answers benchState (sampleIn (pos 40456000) 100000 29815 10001) (Answer.Refused 6)
-  pub e-10000 : refusalOf (rules [] benchState (sampleIn (pos 40456000) 100000 29815 10000) .answer) ≡ 0
+  pub e-10000 : Passes benchState (sampleIn (pos 40456000) 100000 29815 10000)
   -- reference 1,000,000,000: R 40,000,000; raw 0, 10,000,000 and −10,000,000; with K 10,000,000 refusal 9
   pub reference : AnswersLeaving benchState (Entry.Known (Event.Reference 1000000000 0)) Answer.Done referenceState
   pub raw-0 : Answers referenceState (sample (pos 0)) (Answer.Reading 40000000 (pos 1000000000) (pos 1000000000))
@@ -103,8 +111,9 @@ pub record StarredCases : Type 0 where
   pub span-beyond : Answers benchState (spanTo (pos 19999999)) (Answer.Refused 5)
   pub span-500000 : AnswersLeaving benchState (spanTo (pos 80000000)) (Answer.Spanned 500000) (spanState 500000)
   pub span-below : Answers benchState (spanTo (pos 90000000)) (Answer.Refused 5)
-  -- a start, wet values 1,000,000,000, 1,388,160,000, 1,000,000,000, and the area; and one reading X, which gives 2X
+  -- a start, wet values 1,000,000,000, 1,388,160,000, 1,000,000,000, and the area
   pub three-readings :
-      rules [] (after referenceState (start ∷ sample (pos 0) ∷ sample (pos 10000000) ∷ sample (pos 0) ∷ [])) area .answer ≡ Answer.Area 3 (pos 2776320000)
-  pub one-reading :
-      (x : ℤ) → rules [] (withIntegration benchState (countedOf (Integration.Running emptyTally) x)) area .answer ≡ Answer.Area 1 (x *ℤ pos 2)
+      Answers (after referenceState (start ∷ sample (pos 0) ∷ sample (pos 10000000) ∷ sample (pos 0) ∷ [])) area (Answer.Area 3 (pos 2776320000))
+  -- one reading X gives 2X: after a start and V 40,000,000, and after any X that was counted
+  pub one-sample : Answers (after benchState (start ∷ sample (pos 40000000) ∷ [])) area (Answer.Area 1 (pos 2000000000))
+  pub one-reading : (x : ℤ) → Answers (countedOnce x) area (Answer.Area 1 (x *ℤ pos 2))

@@ -1,4 +1,4 @@
--- The tally of a list of wet values, and the integration beside the wet values answered since the start and the ledger's series:
+-- The tally of a list of wet values, and the integration beside the wet values counted since the start and the ledger's series:
 -- it is their tally, and each is within 1,800 of the exact value in its place. Counting and closing keep them together. Assumes
 -- nothing.
 use mathlib.Core.Bool.{Bool, true, false, not, cond}

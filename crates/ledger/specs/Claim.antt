@@ -1,5 +1,5 @@
 -- Demand 3: what holds at each event of every list, refused ones included, from a fresh engine, with the exact ledger going
--- through the same list, and beside it the wet values answered since the start. Assumes nothing.
+-- through the same list, and beside it the wet values counted since the start. Assumes nothing.
 use mathlib.Core.Bool.{true}
 use Prim.Native.Nat.{ℕ, suc, _≤_}
 use mathlib.Core.List.{List, [], _∷_}
@@ -81,7 +81,7 @@ pub record SampleHolds (g : Ledger) (at : Measurement) (r : ℕ) (wet dry : ℤ)
   pub dry-holds : LiesWithin dry dryBound (exactDry (exactValue g at r) (airOf at))
   pub signal-holds : SignalHolds (g .sheet) (g .mode) at r
 
--- an accepted area: the ledger's n, the area rule over the wet values answered since the start, which are n as well, and beside
+-- an accepted area: the ledger's n, the area rule over the wet values counted since the start, which are n as well, and beside
 -- the ledger's area
 pub record AreaHolds (g : Ledger) (ws : List ℤ) (n : ℕ) (area : ℤ) : Type 0 where
   pub count : n ≡ length (g .series)

@@ -1,4 +1,4 @@
--- The wet values answered since the start: a list beside the ledger, made of the entries and their answers, and of whether the
+-- The wet values counted since the start: a list beside the ledger, made of the entries and their answers, and of whether the
 -- ledger's series runs. It sees nothing of the engine and nothing of the exact values. Assumes nothing.
 use mathlib.Core.Bool.{Bool, cond}
 use mathlib.Core.List.{List, [], _∷_, _++_}

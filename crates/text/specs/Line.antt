@@ -27,7 +27,7 @@ lineOf ordinal a =
     decimal ordinal ++ (32 ∷ decimal (a .kind)) ++ (32 ∷ decimal (a .refusal)) ++ (32 ∷ decimal (a .m))
     ++ (32 ∷ signedDecimal (a .x)) ++ (32 ∷ signedDecimal (a .y)) ++ (10 ∷ [])
 
--- the room that any line takes: ordinal and m have at most 10 digits each, kind and refusal 3, x and y 20 with the sign; five spaces
+-- the room that holds any line: ordinal and m have at most 10 digits each, kind and refusal 3, x and y 20 with the sign; five spaces
 -- and a line feed
 abbrev pub lineRoom : ℕ
 lineRoom = 72

@@ -1,6 +1,7 @@
 //! How fast the proved engine runs beside this implementation: whole session files by
 //! `irga_run` and by `file::run`, in one process, into one and the same output. Prints the
-//! table of docs/SPEED.md.
+//! table of docs/SPEED.md. `speed N` has the proved engine run the table's case N once and
+//! prints nothing, for a program that counts instructions.
 
 use std::hint::black_box;
 use std::time::{Duration, Instant};
@@ -152,6 +153,11 @@ fn measure(case: &Case, output: &mut [u8]) -> String {
 fn main() {
     let mut output = vec![0; RECORD_BYTES * EVENTS_LIMIT];
     let cases = cases();
+    if let Some(word) = std::env::args().nth(1) {
+        let number: usize = word.parse().expect("a case is a number, from 1 on");
+        library::run(&cases[number - 1].file, &mut output);
+        return;
+    }
     println!("| case | per second | proved | independent | ratio | lowest to highest |");
     println!("|---|---|---:|---:|---:|---:|");
     for case in &cases {

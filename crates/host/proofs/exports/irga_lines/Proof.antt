@@ -1,0 +1,16 @@
+-- `host::exports::irga_lines` meets its contract: status, count and output are those of the lines. Assumes nothing.
+use borrow.Author.Needs.{needs}
+use Rattle.host.proofs.exports.irga_lines.Statement.{statement}
+use Rattle.host.proofs.exports.irga_lines.Tie as tie
+
+lines-requires : tie.Need-lines-requires
+lines-requires c κs = search needs
+
+same-length : tie.Need-same-length
+same-length c = search needs
+
+returns : tie.Need-returns
+returns c = let e = c .before .before .lines .ensures in (e .0, (e .1 .0, e .1 .1 .0))
+
+pub irga-lines-spec : {M : Type 1} → statement M
+irga-lines-spec = tie.close (tie.spec lines-requires same-length returns)

@@ -12,7 +12,7 @@ use Rattle.layout.specs.Records.{recordAt, eventAt, answerAt, answerBytes}
 use Rattle.engine.specs.Rules.{fresh}
 use Rattle.engine.specs.Sheets.{sheetsHeld}
 use Rattle.ledger.specs.Claim.{Line, transcript, Demand3}
-use Rattle.format.specs.Header.{sheetCount, eventCount, wellFormed, sheetsOf}
+use Rattle.format.specs.Header.{sheetCount, eventCount, firstEvent, wellFormed, sheetsOf}
 use Rattle.format.specs.Entries.{entryOf}
 use Rattle.session.specs.Run.{recordOf, statusOf, writtenOf, outputOf}
 use Rattle.session.specs.Text.{linesFrom, linesOf}
@@ -28,7 +28,7 @@ LineIs file i line = getElem? (transcriptOf file) i ≡ some line
 
 -- event i of the file, counted from 0: what its 24 bytes say, after the header, the sheets and the i events before it
 abbrev pub eventIn : List ℕ → ℕ → EventRecord
-eventIn file i = eventAt file (16 + 24 * sheetCount file + 24 * i)
+eventIn file i = eventAt file (firstEvent file + 24 * i)
 
 -- event i is answered: the transcript has a line i, which is of this event, and at byte 24 i of the output stands that line's answer
 -- with the kind byte as given: its 24 bytes, and read again its kind, refusal, m, x and y

@@ -1,0 +1,40 @@
+-- Two laws of a step that every change of the rules keeps, for the joining of two session files: what a step sees of the list of sheets, and
+-- that an accepted load leaves nothing of the state before it. Assumes nothing.
+use Prim.Native.Nat.{ℕ}
+use mathlib.Core.Bool.{Bool, true, false}
+use mathlib.Core.List.{List}
+use mathlib.Core.Path.{_≡_}
+use Rattle.engine.specs.declared.State.{State}
+use Rattle.engine.specs.declared.Event.{Event}
+use Rattle.engine.specs.declared.Entry.{Entry}
+use Rattle.engine.specs.Answer.{refusalOf, accepted}
+use Rattle.engine.specs.Sheets.{lookupRefusal, lookupOf}
+use Rattle.engine.specs.Step.{workable, stepOf}
+
+abbrev pub loadAt : ℕ → Entry
+loadAt index = Entry.Known (Event.Load index)
+
+abbrev pub isLoad : Entry → Bool
+isLoad (Entry.Known (Event.Load index)) = true
+isLoad (Entry.Known (Event.Zero raw)) = false
+isLoad (Entry.Known (Event.Span at cylinder)) = false
+isLoad (Entry.Known (Event.Reference cylinder e)) = false
+isLoad (Entry.Known Event.Absolute) = false
+isLoad (Entry.Known (Event.Sample at)) = false
+isLoad (Entry.Known Event.Start) = false
+isLoad (Entry.Known Event.Stop) = false
+isLoad (Entry.Known Event.Area) = false
+isLoad (Entry.Malformed kind) = false
+
+-- of two lists of sheets: a load goes by what it finds alone, at whichever index of whichever list; any other entry, a malformed one of
+-- kind byte 1 too, sees no sheets
+pub record SeesLookup (a b : List ℕ) (st : State) : Type 0 where
+  pub load : (i j : ℕ) → lookupOf a i ≡ lookupOf b j → stepOf a st (loadAt i) ≡ stepOf b st (loadAt j)
+  pub other : (entry : Entry) → isLoad entry ≡ false → stepOf a st entry ≡ stepOf b st entry
+
+-- of a load: its refusal is that of the lookup, whatever the state; and where it is accepted at one state, every other state gives the same
+-- answer and the same state after it
+pub record LoadForgets (sheets : List ℕ) (index : ℕ) : Type 0 where
+  pub refusal : (st : State) → workable st ≡ true → refusalOf (stepOf sheets st (loadAt index) .answer) ≡ lookupRefusal (lookupOf sheets index)
+  pub forgets : (st other : State) → accepted (stepOf sheets st (loadAt index) .answer) ≡ true → workable other ≡ true
+      → stepOf sheets other (loadAt index) ≡ stepOf sheets st (loadAt index)

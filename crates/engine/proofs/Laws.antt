@@ -1,4 +1,5 @@
--- A step sees the sheets through the lookup of its load alone, and an accepted load forgets the state before it. Assumes nothing.
+-- A record that the code works with is stepped by the rules, and no other gets an accepted answer. A step sees the sheets through the lookup of
+-- its load alone, and an accepted load forgets the state before it. Assumes nothing.
 use mathlib.Core.Bool.{Bool, true, false, cond}
 use mathlib.Core.List.{List}
 use mathlib.Core.Path.{_≡_, refl, sym, subst, _∙_}
@@ -14,6 +15,20 @@ use Rattle.engine.specs.Rules.{refused, loadBy, rules}
 use Rattle.engine.specs.Step.{workable, stepOf}
 use Rattle.engine.specs.Laws.{loadAt, isLoad, SeesLookup, LoadForgets}
 use Rattle.engine.proofs.Numbers.{lookup-number}
+
+-- ---- the rules, or refusal 1
+module _ (sheets : List ℕ) (st : State) (entry : Entry) where
+  pub by-rules : workable st ≡ true → stepOf sheets st entry ≡ rules sheets st entry
+  unfolding stepOf
+  by-rules e = rw e
+
+  pub worked : accepted (stepOf sheets st entry .answer) ≡ true → workable st ≡ true
+  unfolding stepOf
+  worked = go (workable st)
+    where
+      go : (w : Bool) → accepted (cond w (rules sheets st entry) (refused st 1) .answer) ≡ true → w ≡ true
+      go true k = refl
+      go false k = k
 
 -- ---- what a step sees of the sheets
 module _ (a b : List ℕ) (st : State) where
@@ -40,21 +55,12 @@ module _ (a b : List ℕ) (st : State) where
   pub sees-lookup : SeesLookup a b st
   sees-lookup = record { load = by-lookup; other = no-load }
 
--- ---- what a load leaves
+-- ---- what a load leaves: found, every state gives the same; refused, none accepts
 module _ (sheets : List ℕ) (index : ℕ) where
-  -- of a workable state, or refused with 1
-  stepped : (st : State) (w : Bool) → workable st ≡ w → stepOf sheets st (loadAt index) ≡ cond w (loadBy st (lookupOf sheets index)) (refused st 1)
-  unfolding stepOf
-  stepped st w e = rw e
+  numbered : (st : State) (x : Lookup) → lookupOf sheets index ≡ x → refusalOf (loadBy st x .answer) ≡ lookupRefusal x
+  numbered st (Lookup.Found s) e = refl
+  numbered st (Lookup.Refused number) e = rw (lookup-number sheets index number e)
 
-  numbered : (st : State) → refusalOf (loadBy st (lookupOf sheets index) .answer) ≡ lookupRefusal (lookupOf sheets index)
-  numbered st = go (lookupOf sheets index) refl
-    where
-      go : (x : Lookup) → lookupOf sheets index ≡ x → refusalOf (loadBy st x .answer) ≡ lookupRefusal x
-      go (Lookup.Found s) e = refl
-      go (Lookup.Refused number) e = rw (lookup-number sheets index number e)
-
-  -- found, every state gives the same; refused, none accepts
   same : (st other : State) (x : Lookup) → lookupOf sheets index ≡ x → accepted (loadBy st x .answer) ≡ true → loadBy other x ≡ loadBy st x
   same st other (Lookup.Found s) e k = refl
   same st other (Lookup.Refused number) e k =
@@ -63,12 +69,10 @@ module _ (sheets : List ℕ) (index : ℕ) where
 
   forget : (st other : State) → accepted (stepOf sheets st (loadAt index) .answer) ≡ true → workable other ≡ true
       → stepOf sheets other (loadAt index) ≡ stepOf sheets st (loadAt index)
-  forget st other k e = go (workable st) refl
-    where
-      go : (w : Bool) → workable st ≡ w → stepOf sheets other (loadAt index) ≡ stepOf sheets st (loadAt index)
-      go true f =
-          rw (stepped other true e, stepped st true f) (same st other (lookupOf sheets index) refl (rw (stepped st true f) at k))
-      go false f = absurd (subst T (sym (rw (stepped st false f) at k)) tt)
+  forget st other k e =
+      let here = by-rules sheets st (loadAt index) (worked sheets st (loadAt index) k) in
+      rw (by-rules sheets other (loadAt index) e, here) (same st other (lookupOf sheets index) refl (rw here at k))
 
   pub load-forgets : LoadForgets sheets index
-  load-forgets = record { refusal = λ st e. rw (stepped st true e) (numbered st); forgets = forget }
+  load-forgets =
+      record { refusal = λ st e. rw (by-rules sheets st (loadAt index) e) (numbered st (lookupOf sheets index) refl); forgets = forget }

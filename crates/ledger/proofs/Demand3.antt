@@ -1,50 +1,49 @@
 -- Demand 3 holds, for every list of sheets and every list of entries of any length, from a fresh engine: one induction over the
 -- list, the state, the ledger and the wet values answered going together. And at every state that a list leaves the code's step goes by the rules. Assumes
 -- nothing.
-use mathlib.Core.Bool.{Bool, true}
+use mathlib.Core.Bool.{false}
 use mathlib.Core.List.{List, [], _∷_}
-use mathlib.Core.Path.{_≡_, refl}
+use mathlib.Core.Path.{refl}
 use Prim.Native.Nat.{ℕ}
 use native.Mathlib.Omega.{arith}
 use lib.IntN.{ℤ}
-use Rattle.exact.specs.Fraction.{Fraction}
 use Rattle.engine.specs.declared.State.{State}
 use Rattle.engine.specs.declared.Entry.{Entry}
 use Rattle.engine.specs.Rules.{rules, fresh}
-use Rattle.engine.specs.Step.{workable, stepOf}
+use Rattle.engine.proofs.Laws.{by-rules}
+use Rattle.ledger.specs.Ledger.{Ledger, freshLedger}
 use Rattle.ledger.specs.Claim.{transcript, leaves, Holds, Demand3, Reachable}
-use Rattle.ledger.proofs.Tallies.{Keeps, idle}
-use Rattle.ledger.proofs.Lines.{Settings, workable-is, ledgerAt, entry-good}
+use Rattle.ledger.proofs.Tallies.{idle}
+use Rattle.ledger.proofs.Lines.{Settings, workable-is, Together, entry-good}
 
 fresh-settings : Settings fresh
 fresh-settings = record { sheet = refl; zero = omega arith; span-low = omega arith; span-high = omega arith; gas = refl }
 
--- a record that the code works with is stepped by the rules
-by-rules : (sheets : List ℕ) (st : State) (entry : Entry) → workable st ≡ true → stepOf sheets st entry ≡ rules sheets st entry
-unfolding stepOf
-by-rules sheets st entry e = rw e
+-- a state that goes together with some ledger and some wet values
+pub record Kept (st : State) : Type 0 where
+  pub ledger : Ledger
+  pub wets : List ℤ
+  pub together : Together st ledger wets
 
-holds : (sheets : List ℕ) (st : State) {ws : List ℤ} {xs : List Fraction} {b : Bool} → Settings st → Keeps (st .integration) ws xs b → (entries : List Entry)
-    → Holds sheets st (ledgerAt st xs b) ws (transcript sheets st entries)
-holds sheets st h k [] = tt
-holds sheets st h k (entry ∷ entries) =
-    rw (by-rules sheets st entry (workable-is st h k))
-    (let n = entry-good sheets st h k entry in
-    let t = n .next in
-    (refl, record { by-rules = refl; refusal = n .refusal; by-ledger = n .ledger }, rw (t .same) (holds sheets (rules sheets st entry .state) (t .settings) (t .keeps) entries)))
+-- from such a state every line of a list holds, and what the list leaves is such a state again
+pub kept : (sheets : List ℕ) (st : State) {g : Ledger} {ws : List ℤ} → Together st g ws → (entries : List Entry)
+    → Holds sheets st g ws (transcript sheets st entries) × Kept (leaves sheets st entries)
+kept sheets st t [] = (tt, record { ledger = _; wets = _; together = t })
+kept sheets st t (entry ∷ entries) =
+    rw (t .same, by-rules sheets st entry (workable-is st (t .settings) (t .keeps)))
+    (let n = entry-good sheets st (t .settings) (t .keeps) entry in
+    let k = kept sheets (rules sheets st entry .state) (n .next) entries in
+    ((refl, record { by-rules = refl; refusal = n .refusal; by-ledger = n .ledger }, k .0), k .1))
+
+fresh-together : Together fresh freshLedger []
+fresh-together = record { xs = []; runs = false; settings = fresh-settings; keeps = idle; same = refl }
 
 pub demand-3 : (sheets : List ℕ) (entries : List Entry) → Demand3 sheets entries
-demand-3 sheets entries = holds sheets fresh fresh-settings idle entries
+demand-3 sheets entries = kept sheets fresh fresh-together entries .0
 
 -- every state that a list of events leaves from a fresh engine keeps to the limits
-left : (sheets : List ℕ) (st : State) {ws : List ℤ} {xs : List Fraction} {b : Bool} → Settings st → Keeps (st .integration) ws xs b → (entries : List Entry)
-    → workable (leaves sheets st entries) ≡ true
-left sheets st h k [] = workable-is st h k
-left sheets st h k (entry ∷ entries) =
-    rw (by-rules sheets st entry (workable-is st h k))
-    (let t = entry-good sheets st h k entry .next in left sheets (rules sheets st entry .state) (t .settings) (t .keeps) entries)
-
 pub reachable : (sheets : List ℕ) (entries : List Entry) → Reachable sheets entries
 reachable sheets entries =
-    let w = left sheets fresh fresh-settings idle entries in
+    let t = kept sheets fresh fresh-together entries .1 .together in
+    let w = workable-is (leaves sheets fresh entries) (t .settings) (t .keeps) in
     record { within = w; by-rules = λ (entry : Entry). by-rules sheets (leaves sheets fresh entries) entry w }

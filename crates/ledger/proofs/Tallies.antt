@@ -20,6 +20,7 @@ use Rattle.engine.specs.declared.Tally.{Tally}
 use Rattle.engine.specs.declared.Integration.{Integration}
 use Rattle.engine.specs.Integration.{emptyTally, talliedOf, countedOf, closedOf}
 use Rattle.engine.specs.Step.{integrationWithin}
+use Rattle.engine.proofs.Inversion.{Tallied, in-running, in-closed}
 
 -- ---- the tally of a list
 abbrev pub tallyOf : List ℤ → Tally
@@ -111,3 +112,8 @@ pub keeps-within : {i : Integration} {ws : List ℤ} {xs : List Fraction} {b : B
 keeps-within idle = refl
 keeps-within {ws = ws} (running e r l) = rw (tally-within ws r (le-of-lt l), lt-ltb (length ws) 600000 l)
 keeps-within {ws = ws} (closed e r l) = tally-within ws r l
+
+-- its tally, where it has one
+pub keeps-tally : {i : Integration} {ws : List ℤ} {xs : List Fraction} {b : Bool} {t : Tally} → Keeps i ws xs b → Tallied i t → (t ≡ tallyOf ws) × EachWithin ws xs
+keeps-tally (running e r l) in-running = (refl, e)
+keeps-tally (closed e r l) in-closed = (refl, e)

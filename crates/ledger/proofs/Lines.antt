@@ -30,7 +30,7 @@ use Rattle.engine.specs.Sample.{sampledOf}
 use Rattle.engine.specs.Integration.{areaAnswer}
 use Rattle.engine.specs.Rules.{answered, refused, sampleBy, rules}
 use Rattle.engine.specs.Step.{loadedWithin, modeWithin, workable}
-use Rattle.engine.proofs.Inversion.{closing, Ruled, refuses, malformed, loads, zeroes, spans, refers, absolute, samples, starts, stops, totals, ruled}
+use Rattle.engine.proofs.Cases.{closing, Ruled, refuses, malformed, loads, zeroes, spans, refers, absolute, samples, starts, stops, totals, ruled}
 use Rattle.ledger.specs.Ledger.{Ledger, withSeries, taken, exactValue, refusedBy, ledgerStep}
 use Rattle.ledger.specs.Wets.{wetsStep}
 use Rattle.ledger.specs.Claim.{RefusalHolds, LedgerHolds}

@@ -20,7 +20,7 @@ use Rattle.engine.specs.declared.Tally.{Tally}
 use Rattle.engine.specs.declared.Integration.{Integration}
 use Rattle.engine.specs.Integration.{emptyTally, talliedOf, countedOf, closedOf}
 use Rattle.engine.specs.Step.{integrationWithin}
-use Rattle.engine.proofs.Inversion.{Tallied, in-running, in-closed}
+use Rattle.engine.proofs.Cases.{Tallied, in-running, in-closed}
 
 -- ---- the tally of a list
 abbrev pub tallyOf : List ℤ → Tally

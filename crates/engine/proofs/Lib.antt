@@ -1,4 +1,3 @@
-pub mod Sizes
 pub mod Workable
-pub mod Numbers
+pub mod Inversion
 pub mod Bench

@@ -23,22 +23,25 @@ use Rattle.exact.specs.Bounds.{areaBound}
 use Rattle.exact.specs.Area.{EachWithin, areaOf, exactArea}
 use Rattle.exact.proofs.Area.{same-length, area-distance}
 use Rattle.engine.specs.declared.Loaded.{Loaded}
-use Rattle.engine.specs.declared.Mode.{Mode}
-use Rattle.engine.specs.declared.Integration.{Integration}
+use Rattle.sampling.specs.declared.Mode.{Mode}
+use Rattle.counting.specs.declared.Integration.{Integration}
 use Rattle.engine.specs.declared.State.{State}
-use Rattle.engine.specs.declared.Measurement.{Measurement}
+use Rattle.sampling.specs.declared.Measurement.{Measurement}
 use Rattle.engine.specs.declared.Event.{Event}
 use Rattle.engine.specs.declared.Entry.{Entry}
 use Rattle.engine.specs.declared.Answer.{Answer}
 use Rattle.engine.specs.declared.Stepped.{Stepped}
-use Rattle.engine.specs.declared.Lookup.{Lookup}
-use Rattle.engine.specs.declared.Sampled.{Sampled}
+use Rattle.sheets.specs.declared.Lookup.{Lookup}
+use Rattle.sampling.specs.declared.Sampled.{Sampled}
 use Rattle.engine.specs.Answer.{kindOf}
-use Rattle.engine.specs.Sheets.{asSheet, recordWithin, sheetsHeld, lookupOf}
-use Rattle.engine.specs.Sample.{airOf, inputWithin, sampledOf}
-use Rattle.engine.specs.Integration.{countedOf, closedOf, areaAnswer}
+use Rattle.sheets.specs.Sheets.{asSheet, recordWithin, sheetsHeld, lookupOf}
+use Rattle.sampling.specs.Sample.{airOf, inputWithin}
+use Rattle.engine.specs.Sample.{sampledOf}
+use Rattle.counting.specs.Integration.{countedOf, closedOf}
+use Rattle.engine.specs.Rules.{areaAnswer}
 use Rattle.engine.specs.Rules.{answered, refused, withIntegration, idleWith, needingSheet, loadBy, zeroRule, spanBy, spanIn, spanRule, referenceRule, absoluteRule, sampleBy, startRule, stopIn, stopRule, areaIn, areaRule, rules}
-use Rattle.engine.specs.Step.{loadedWithin, modeWithin, workable}
+use Rattle.sampling.specs.Sample.{modeWithin}
+use Rattle.engine.specs.Step.{loadedWithin, workable}
 use Rattle.ledger.specs.Ledger.{Ledger, settled, withSeries, taken, exactValue, ledgerStep}
 use Rattle.ledger.specs.Wets.{wetsStep}
 use Rattle.ledger.specs.Claim.{RefusalHolds, LedgerHolds}

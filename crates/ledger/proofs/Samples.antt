@@ -22,12 +22,13 @@ use Rattle.exact.specs.Fraction.{LiesWithin}
 use Rattle.exact.specs.Bounds.{againstBound}
 use Rattle.exact.proofs.Distance.{absolute-distance, absolute-dry-distance, against-distance, against-dry-distance, reference-at-least, reference-less-than, lies-weaken}
 use Rattle.engine.specs.declared.Loaded.{Loaded}
-use Rattle.engine.specs.declared.Cylinder.{Cylinder}
-use Rattle.engine.specs.declared.Mode.{Mode}
+use Rattle.sampling.specs.declared.Cylinder.{Cylinder}
+use Rattle.sampling.specs.declared.Mode.{Mode}
 use Rattle.engine.specs.declared.State.{State}
-use Rattle.engine.specs.declared.Measurement.{Measurement}
-use Rattle.engine.specs.declared.Sampled.{Sampled}
-use Rattle.engine.specs.Sample.{airOf, referenceAir, inputWithin, gasWithin, valuesOf, withFinding, byMode, onSheet, sampledOf}
+use Rattle.sampling.specs.declared.Measurement.{Measurement}
+use Rattle.sampling.specs.declared.Sampled.{Sampled}
+use Rattle.sampling.specs.Sample.{airOf, referenceAir, inputWithin, valuesOf}
+use Rattle.engine.specs.Sample.{gasWithin, withFinding, byMode, onSheet, sampledOf}
 use Rattle.ledger.specs.Ledger.{Ledger, exactValue}
 use Rattle.ledger.specs.Claim.{AtSignal, SampleHolds}
 

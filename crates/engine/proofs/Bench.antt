@@ -12,12 +12,13 @@ use Rattle.curve.proofs.Bench.{starred-readings}
 use Rattle.reference.specs.Signal.{signalOf, againstOf}
 use Rattle.reference.proofs.Bench.{starred-references}
 use Rattle.engine.specs.declared.State.{State}
-use Rattle.engine.specs.declared.Integration.{Integration}
+use Rattle.counting.specs.declared.Integration.{Integration}
 use Rattle.engine.specs.declared.Answer.{Answer}
 use Rattle.engine.specs.declared.Stepped.{Stepped}
 use Rattle.engine.specs.Sample.{sampledOf}
-use Rattle.engine.specs.Integration.{emptyTally, countedOf, areaAnswer}
-use Rattle.engine.specs.Rules.{answered, withIntegration, spanBy, rules}
+use Rattle.counting.specs.Integration.{emptyTally, countedOf, tallyArea}
+use Rattle.sampling.specs.Sample.{sampledOn}
+use Rattle.engine.specs.Rules.{answered, withIntegration, spanBy, areaAnswer, rules}
 use Rattle.engine.specs.Bench.{benchState, referenceState, countedOnce, sample, start, area, Answers, after, StarredCases}
 
 -- 2X less nothing, where n − 1 is 0
@@ -32,11 +33,11 @@ counting i = withIntegration referenceState i
 
 module _ (i : Integration) where
   low : rules [] (counting i) (sample (pos 0)) ≡ answered (Answer.Reading 40000000 (pos 1000000000) (pos 1000000000)) (counting (countedOf i (pos 1000000000)))
-  unfolding sampledOf airWithin absoluteOf signalOf againstOf nearest reducedOf slope2Of slope1Of cubicOf moistOf warmOf wetOf dryOf
+  unfolding sampledOf sampledOn airWithin absoluteOf signalOf againstOf nearest reducedOf slope2Of slope1Of cubicOf moistOf warmOf wetOf dryOf
   low = rw (starred-references .reference)
 
   high : rules [] (counting i) (sample (pos 10000000)) ≡ answered (Answer.Reading 40000000 (pos 1388160000) (pos 1388160000)) (counting (countedOf i (pos 1388160000)))
-  unfolding sampledOf airWithin absoluteOf signalOf againstOf nearest reducedOf slope2Of slope1Of cubicOf moistOf warmOf wetOf dryOf
+  unfolding sampledOf sampledOn airWithin absoluteOf signalOf againstOf nearest reducedOf slope2Of slope1Of cubicOf moistOf warmOf wetOf dryOf
   high = rw (starred-references .reference)
 
 -- what is counted after a start and the first readings
@@ -54,7 +55,7 @@ three-state =
     ∙ ap (λ (x : Stepped). x .state) (low counted-2)
 
 pub starred-cases : StarredCases
-unfolding sampledOf areaAnswer airWithin absoluteOf signalOf againstOf nearest reducedOf slope2Of slope1Of cubicOf moistOf warmOf wetOf dryOf
+unfolding sampledOf sampledOn areaAnswer tallyArea airWithin absoluteOf signalOf againstOf nearest reducedOf slope2Of slope1Of cubicOf moistOf warmOf wetOf dryOf
 starred-cases =
     record {
       readings = starred-readings;

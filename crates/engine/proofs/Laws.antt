@@ -5,16 +5,16 @@ use mathlib.Core.List.{List}
 use mathlib.Core.Path.{_≡_, refl, sym, subst, _∙_}
 use Prim.Native.Nat.{ℕ}
 use lib.Dec.{T, eqb}
+use Rattle.sheets.specs.declared.Lookup.{Lookup}
+use Rattle.sheets.specs.Sheets.{lookupRefusal, lookupOf}
+use Rattle.sheets.proofs.Numbers.{lookup-number}
 use Rattle.engine.specs.declared.State.{State}
 use Rattle.engine.specs.declared.Event.{Event}
 use Rattle.engine.specs.declared.Entry.{Entry}
-use Rattle.engine.specs.declared.Lookup.{Lookup}
 use Rattle.engine.specs.Answer.{refusalOf, accepted}
-use Rattle.engine.specs.Sheets.{lookupRefusal, lookupOf}
 use Rattle.engine.specs.Rules.{refused, loadBy, rules}
 use Rattle.engine.specs.Step.{workable, stepOf}
 use Rattle.engine.specs.Laws.{loadAt, isLoad, SeesLookup, LoadForgets}
-use Rattle.engine.proofs.Numbers.{lookup-number}
 
 -- ---- the rules, or refusal 1
 module _ (sheets : List ℕ) (st : State) (entry : Entry) where

@@ -1,6 +1,5 @@
-pub mod Sizes
 pub mod Workable
-pub mod Numbers
-pub mod Laws
+pub mod Inversion
 pub mod Cases
+pub mod Laws
 pub mod Bench

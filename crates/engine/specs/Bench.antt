@@ -6,16 +6,16 @@ use Prim.Native.Nat.{ℕ}
 use lib.IntN.{ℤ, pos, negsuc, _*ℤ_}
 use Rattle.curve.specs.Bench.{benchSheet, StarredReadings}
 use Rattle.reference.specs.Bench.{smallSheet, StarredReferences}
+use Rattle.counting.specs.declared.Integration.{Integration}
+use Rattle.counting.specs.Integration.{emptyTally, countedOf}
+use Rattle.sampling.specs.declared.Mode.{Mode}
+use Rattle.sampling.specs.declared.Measurement.{Measurement}
 use Rattle.engine.specs.declared.Loaded.{Loaded}
-use Rattle.engine.specs.declared.Mode.{Mode}
-use Rattle.engine.specs.declared.Integration.{Integration}
 use Rattle.engine.specs.declared.State.{State}
-use Rattle.engine.specs.declared.Measurement.{Measurement}
 use Rattle.engine.specs.declared.Event.{Event}
 use Rattle.engine.specs.declared.Entry.{Entry}
 use Rattle.engine.specs.declared.Answer.{Answer}
 use Rattle.engine.specs.Answer.{refusalOf}
-use Rattle.engine.specs.Integration.{emptyTally, countedOf}
 use Rattle.engine.specs.Rules.{answered, withIntegration, idleWith, rules}
 
 -- ---- states: Q 0, S 1,000,000 unless said, idle

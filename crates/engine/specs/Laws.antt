@@ -4,11 +4,11 @@ use Prim.Native.Nat.{ℕ}
 use mathlib.Core.Bool.{Bool, true, false}
 use mathlib.Core.List.{List}
 use mathlib.Core.Path.{_≡_}
+use Rattle.sheets.specs.Sheets.{lookupRefusal, lookupOf}
 use Rattle.engine.specs.declared.State.{State}
 use Rattle.engine.specs.declared.Event.{Event}
 use Rattle.engine.specs.declared.Entry.{Entry}
 use Rattle.engine.specs.Answer.{refusalOf, accepted}
-use Rattle.engine.specs.Sheets.{lookupRefusal, lookupOf}
 use Rattle.engine.specs.Step.{workable, stepOf}
 
 abbrev pub loadAt : ℕ → Entry

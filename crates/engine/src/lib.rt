@@ -16,44 +16,18 @@ use crate::rules::span;
 use crate::rules::start;
 use crate::rules::stop;
 use crate::rules::zero;
+use counting::Integration;
 use curve::Sheet;
+use sampling::Measurement;
+use sampling::Mode;
 
-mod counting;
 mod limits;
 mod rules;
-mod sample;
-mod sheets;
-mod widths;
 
 // The loaded sheet, or none.
 pub enum Loaded {
     Nothing,
     One(Sheet),
-}
-
-// A reference gas: the cylinder Cr and its vapour pressure er.
-pub struct Cylinder {
-    pub c: u64,
-    pub e: u64,
-}
-
-pub enum Mode {
-    Absolute,
-    Against(Cylinder),
-}
-
-// What an integration keeps of its wet values: how many, the first, the last and their sum.
-pub struct Tally {
-    pub n: u64,
-    pub first: i64,
-    pub last: i64,
-    pub sum: i64,
-}
-
-pub enum Integration {
-    Idle,
-    Running(Tally),
-    Closed(Tally),
 }
 
 // Zero is q, span is s.
@@ -63,14 +37,6 @@ pub struct State {
     pub s: u64,
     pub mode: Mode,
     pub integration: Integration,
-}
-
-// What the analyser and the room give, at the file's widths.
-pub struct Measurement {
-    pub raw: i32,
-    pub p: u32,
-    pub t: u32,
-    pub e: u32,
 }
 
 // The nine kinds, each with its own fields at the file's widths.
@@ -107,18 +73,6 @@ pub enum Answer {
 pub struct Stepped {
     pub answer: Answer,
     pub state: State,
-}
-
-// What a load finds at its index: a sheet, or the refusal.
-pub enum Lookup {
-    Found(Sheet),
-    Refused(u8),
-}
-
-// What a sample gives: its values, or the refusal.
-pub enum Sampled {
-    Value { r: u64, wet: i64, dry: i64 },
-    Refused(u8),
 }
 
 // The state in which a run starts.

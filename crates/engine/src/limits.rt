@@ -1,15 +1,14 @@
 // Whether a record is one that a list of events can leave, as far as the arithmetic needs it.
 ghost use mathlib.Core.Path.{_≡_};
-ghost use Rattle.engine.specs.Step.{loadedWithin, modeWithin, tallyWithin, integrationWithin};
+ghost use Rattle.engine.specs.Step.{loadedWithin};
 ghost use Rattle.engine.specs.Step.{workable as Step·workable};
-use crate::Integration;
 use crate::Loaded;
-use crate::Mode;
 use crate::State;
-use crate::Tally;
+use counting::limits::integration_within;
 use curve::limits::sheet_within;
 use curve::limits::within;
 use rounding::signed::magnitude;
+use sampling::mode_within;
 
 pub(crate) fn workable(st: State) -> bool
     ensures { λ r. ⌜ r ≡ Step·workable st ⌝ }
@@ -39,40 +38,4 @@ fn loaded_within(loaded: Loaded) -> bool
         Loaded::Nothing => true,
         Loaded::One(s) => sheet_within(s),
     }
-}
-
-fn mode_within(mode: Mode) -> bool
-    ensures { λ r. ⌜ r ≡ modeWithin mode ⌝ }
-{
-    match mode {
-        Mode::Absolute => true,
-        Mode::Against(gas) => gas.c <= 3000000000 && gas.e <= 11500,
-    }
-}
-
-fn integration_within(i: Integration) -> bool
-    ensures { λ r. ⌜ r ≡ integrationWithin i ⌝ }
-{
-    match i {
-        Integration::Idle => true,
-        // A running one has a place left.
-        Integration::Running(t) => tally_within(t) && t.n < 600000,
-        Integration::Closed(t) => tally_within(t),
-    }
-}
-
-// The sums that up to 600,000 wet values can reach.
-fn tally_within(t: Tally) -> bool
-    ensures { λ r. ⌜ r ≡ tallyWithin t ⌝ }
-{
-    if 600000 < t.n {
-        return false;
-    }
-    if 3000000000 < magnitude(t.first) {
-        return false;
-    }
-    if 3000000000 < magnitude(t.last) {
-        return false;
-    }
-    magnitude(t.sum) <= 1800000000000000
 }

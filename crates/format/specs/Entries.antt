@@ -4,7 +4,7 @@ use mathlib.Core.Bool.{Bool, _&&_, cond}
 use lib.Dec.{eqb}
 use lib.IntN.{natAbs}
 use Rattle.layout.specs.declared.EventRecord.{EventRecord}
-use Rattle.engine.specs.declared.Measurement.{Measurement}
+use Rattle.sampling.specs.declared.Measurement.{Measurement}
 use Rattle.engine.specs.declared.Event.{Event}
 use Rattle.engine.specs.declared.Entry.{Entry}
 

@@ -5,8 +5,8 @@ ghost use lib.Dec.{eqb};
 ghost use Rattle.format.specs.Entries.{noRaw, noCylinder, noAir, noFields, measured as Entries·measured, knownIf, byKind, entryOf};
 use engine::Entry;
 use engine::Event;
-use engine::Measurement;
 use layout::EventRecord;
+use sampling::Measurement;
 
 // The entry of a record, whatever its bytes were.
 pub fn entry_of(r: EventRecord) -> Entry

@@ -6,8 +6,8 @@ use Rattle.curve.specs.Bench.{benchSheet}
 use Rattle.layout.specs.Fields.{signed}
 use Rattle.layout.specs.Records.{sheetOf}
 use Rattle.engine.specs.declared.Answer.{Answer}
-use Rattle.engine.specs.declared.Lookup.{Lookup}
-use Rattle.engine.specs.Sheets.{lookupOf}
+use Rattle.sheets.specs.declared.Lookup.{Lookup}
+use Rattle.sheets.specs.Sheets.{lookupOf}
 use Rattle.engine.specs.Rules.{fresh, answered, refused}
 use Rattle.engine.specs.Step.{workable, stepOf}
 use Rattle.engine.specs.Bench.{benchState, referenceState}

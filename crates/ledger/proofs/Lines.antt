@@ -1,41 +1,36 @@
 -- One event under the rules, from a state whose settings are within their limits and whose integration keeps to the ledger's
 -- series: what the claim says of the answer holds, and the next state and ledger are such a pair again. Assumes nothing.
 use mathlib.Core.Bool.{Bool, true, false, cond}
-use mathlib.Core.List.{List, [], _∷_}
-use mathlib.Core.Path.{_≡_, refl, sym, ap, subst}
+use mathlib.Core.List.{List, []}
+use mathlib.Core.Path.{_≡_, refl}
 use Prim.Native.Nat.{ℕ, _≤_}
 use native.Mathlib.Omega.{arith}
 use borrow.Author.Tests.{le-leb, ne-eqb}
-use lib.Dec.{eqb, eqb·suc-zero}
+use lib.Dec.{eqb}
 use lib.IntN.{ℤ, natAbs}
-use lib.ListN.{length}
-use Rattle.curve.specs.declared.Sheet.{Sheet}
-use Rattle.curve.specs.Limits.{SheetOk, within}
-use Rattle.curve.proofs.Within.{range, sheet-ok}
-use Rattle.exact.specs.Fraction.{Fraction, LiesWithin}
-use Rattle.exact.specs.Bounds.{areaBound}
-use Rattle.exact.specs.Area.{EachWithin, areaOf, exactArea}
+use Rattle.curve.specs.Limits.{within}
+use Rattle.curve.proofs.Within.{range}
+use Rattle.exact.specs.Fraction.{Fraction}
+use Rattle.exact.specs.Area.{EachWithin, areaOf}
 use Rattle.exact.proofs.Area.{same-length, area-distance}
 use Rattle.engine.specs.declared.Loaded.{Loaded}
-use Rattle.engine.specs.declared.Mode.{Mode}
-use Rattle.engine.specs.declared.Integration.{Integration}
+use Rattle.sampling.specs.declared.Mode.{Mode}
+use Rattle.counting.specs.declared.Tally.{Tally}
 use Rattle.engine.specs.declared.State.{State}
-use Rattle.engine.specs.declared.Measurement.{Measurement}
 use Rattle.engine.specs.declared.Event.{Event}
 use Rattle.engine.specs.declared.Entry.{Entry}
 use Rattle.engine.specs.declared.Answer.{Answer}
 use Rattle.engine.specs.declared.Stepped.{Stepped}
-use Rattle.engine.specs.declared.Sampled.{Sampled}
-use Rattle.engine.specs.Sample.{sampledOf}
-use Rattle.engine.specs.Integration.{areaAnswer}
-use Rattle.engine.specs.Rules.{answered, refused, sampleBy, rules}
-use Rattle.engine.specs.Step.{loadedWithin, modeWithin, workable}
-use Rattle.engine.proofs.Cases.{closing, Ruled, refuses, malformed, loads, zeroes, spans, refers, absolute, samples, starts, stops, totals, ruled}
+use Rattle.counting.specs.Integration.{tallyArea}
+use Rattle.sampling.specs.Sample.{modeWithin}
+use Rattle.engine.specs.Rules.{answered, refused, rules}
+use Rattle.engine.specs.Step.{loadedWithin, workable}
+use Rattle.engine.proofs.Cases.{closing, Ruled, refuses, malformed, loads, zeroes, spans, refers, absolute, samples, closes, starts, stops, totals, ruled}
 use Rattle.ledger.specs.Ledger.{Ledger, withSeries, taken, exactValue, refusedBy, ledgerStep}
 use Rattle.ledger.specs.Wets.{wetsStep}
 use Rattle.ledger.specs.Claim.{RefusalHolds, LedgerHolds}
 use Rattle.ledger.proofs.Tallies.{tallyOf, Keeps, idle, started, keeps-closed, keeps-counted, keeps-tally, keeps-within, takenAtEnd, takenRuns}
-use Rattle.ledger.proofs.Samples.{Sound, sample-sound}
+use Rattle.ledger.proofs.Samples.{ledgerAt, sample-worth}
 
 -- ---- settings within their limits
 pub record SettingsOk (loaded : Loaded) (q : ℤ) (s : ℕ) (mode : Mode) : Type 0 where
@@ -53,11 +48,7 @@ unfolding workable
 workable-is st h k =
     rw (h .sheet, le-leb (natAbs (st .q)) 20000000 (h .zero), le-leb 500000 (st .s) (h .span-low), le-leb (st .s) 2000000 (h .span-high), h .gas, keeps-within k)
 
--- ---- the ledger beside a state
-abbrev pub ledgerAt : State → List Fraction → Bool → Ledger
-ledgerAt st xs b = record { sheet = st .loaded; q = st .q; s = st .s; mode = st .mode; series = xs; runs = b }
-
--- a state, a ledger and the wet values answered that go together
+-- ---- a state, a ledger and the wet values answered that go together
 pub record Together (st : State) (g : Ledger) (ws : List ℤ) : Type 0 where
   pub xs : List Fraction
   pub runs : Bool
@@ -118,26 +109,17 @@ module _ (sheets : List ℕ) (st : State) {ws : List ℤ} {xs : List Fraction} {
       go true = refl
       go false = refl
 
-  sample-good : (at : Measurement) (x : Sampled) → Sound g at x → Good sheets g ws (Entry.Known (Event.Sample at)) (sampleBy st x)
-  unfolding ledgerStep wetsStep
-  sample-good at (Sampled.Value r wet dry) w =
-      makes (takenAtEnd xs b (exactValue g at r)) (takenRuns xs b) tt (w .holds) h (keeps-counted k (w .near) (w .small)) (taken-is (exactValue g at r))
-  sample-good at (Sampled.Refused number) w =
-      rw (ne-eqb number 0 (λ z. omega (arith, w .0)))
-      (refusal number false (rw (le-leb 1 number (w .0), le-leb number 11 (w .1))) tt h (keeps-closed k) refl)
-
-  -- ---- an area, refused where nothing was counted
-  area-good : (vs : List ℤ) → vs ≡ ws → EachWithin vs xs → Good sheets g ws (Entry.Known Event.Area) (answered (areaAnswer (tallyOf vs)) st)
-  unfolding areaAnswer areaOf ledgerStep wetsStep
-  area-good [] f d = refusal 10 b refl tt h k refl
-  area-good (v ∷ vs) f d =
-      rw (eqb·suc-zero (length vs))
+  -- ---- an area
+  area-good : {t : Tally} → t ≡ tallyOf ws → EachWithin ws xs → Good sheets g ws (Entry.Known Event.Area) (answered (Answer.Area (t .n) (tallyArea t)) st)
+  unfolding tallyArea areaOf ledgerStep wetsStep
+  area-good e d =
+      rw e
       (makes xs b tt
       (record {
         count = same-length d;
-        wet-count = ap length f;
-        wet-area = ap areaOf f;
-        distance = subst (λ (n : ℕ). LiesWithin (areaOf (v ∷ vs)) (areaBound n) (exactArea xs)) (sym (same-length d)) (area-distance d);
+        wet-count = refl;
+        wet-area = refl;
+        distance = rw (← same-length d) at (area-distance d);
       }) h k refl)
 
   -- ---- every entry
@@ -150,13 +132,13 @@ module _ (sheets : List ℕ) (st : State) {ws : List ℤ} {xs : List Fraction} {
   good (spans l u) = makes [] false tt tt (record { sheet = h .sheet; zero = h .zero; span-low = l; span-high = u; gas = h .gas }) idle refl
   good (refers e) = makes [] false tt tt (record { sheet = h .sheet; zero = h .zero; span-low = h .span-low; span-high = h .span-high; gas = e }) idle refl
   good absolute = makes [] false tt tt (record { sheet = h .sheet; zero = h .zero; span-low = h .span-low; span-high = h .span-high; gas = refl }) idle refl
-  good (samples {at} x e) = sample-good at x (subst (Sound g at) e (sample-sound st g refl refl refl refl sheet-of at))
-    where
-      sheet-of : (s : Sheet) → st .loaded ≡ Loaded.One s → SheetOk s
-      sheet-of s e = sheet-ok s (subst (λ (l : Loaded). loadedWithin l ≡ true) e (h .sheet))
+  good (samples {at} {r} x) =
+      let w = sample-worth st xs b (h .sheet) at x in
+      makes (takenAtEnd xs b (exactValue g at r)) (takenRuns xs b) tt (w .holds) h (keeps-counted k (w .near) (w .small)) (taken-is (exactValue g at r))
+  good (closes {number = number} n) = refusal number false n tt h (keeps-closed k) refl
   good starts = makes [] true tt tt h started refl
   good stops = makes xs false tt tt h (keeps-closed k) refl
-  good (totals t) = let m = keeps-tally k t in rw (m .0) (area-good ws refl (m .1))
+  good (totals t) = area-good (keeps-tally k t .0) (keeps-tally k t .1)
 
   pub entry-good : (entry : Entry) → Good sheets g ws entry (rules sheets st entry)
   entry-good entry = good (ruled sheets st entry)

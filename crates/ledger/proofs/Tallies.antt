@@ -16,10 +16,10 @@ use Rattle.exact.specs.Fraction.{Fraction, LiesWithin}
 use Rattle.exact.specs.Bounds.{againstBound}
 use Rattle.exact.specs.Area.{firstOf, lastOf, sumOf, EachWithin, empty}
 use Rattle.exact.proofs.Area.{same-length, each-append}
-use Rattle.engine.specs.declared.Tally.{Tally}
-use Rattle.engine.specs.declared.Integration.{Integration}
-use Rattle.engine.specs.Integration.{emptyTally, talliedOf, countedOf, closedOf}
-use Rattle.engine.specs.Step.{integrationWithin}
+use Rattle.counting.specs.declared.Tally.{Tally}
+use Rattle.counting.specs.declared.Integration.{Integration}
+use Rattle.counting.specs.Integration.{emptyTally, talliedOf, countedOf, closedOf}
+use Rattle.counting.specs.Limits.{integrationWithin}
 use Rattle.engine.proofs.Cases.{Tallied, in-running, in-closed}
 
 -- ---- the tally of a list

@@ -12,15 +12,15 @@ use Rattle.exact.specs.Equation.{exactWet, exactDry}
 use Rattle.exact.specs.Area.{areaOf, exactArea}
 use Rattle.exact.specs.Bounds.{absoluteBound, againstBound, dryBound, referenceBound, areaBound}
 use Rattle.engine.specs.declared.Loaded.{Loaded}
-use Rattle.engine.specs.declared.Cylinder.{Cylinder}
-use Rattle.engine.specs.declared.Mode.{Mode}
+use Rattle.sampling.specs.declared.Cylinder.{Cylinder}
+use Rattle.sampling.specs.declared.Mode.{Mode}
 use Rattle.engine.specs.declared.State.{State}
-use Rattle.engine.specs.declared.Measurement.{Measurement}
+use Rattle.sampling.specs.declared.Measurement.{Measurement}
 use Rattle.engine.specs.declared.Event.{Event}
 use Rattle.engine.specs.declared.Entry.{Entry}
 use Rattle.engine.specs.declared.Answer.{Answer}
 use Rattle.engine.specs.Answer.{refusalOf, mOf, xOf, yOf}
-use Rattle.engine.specs.Sample.{airOf, referenceAir}
+use Rattle.sampling.specs.Sample.{airOf, referenceAir}
 use Rattle.engine.specs.Rules.{rules, fresh, answered}
 use Rattle.engine.specs.Step.{workable, stepOf}
 use Rattle.ledger.specs.Ledger.{Ledger, freshLedger, exactValue, ledgerStep}

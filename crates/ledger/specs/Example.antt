@@ -8,9 +8,9 @@ use Rattle.curve.specs.Bench.{benchSheet}
 use Rattle.layout.specs.declared.AnswerRecord.{AnswerRecord}
 use Rattle.engine.specs.declared.Event.{Event}
 use Rattle.engine.specs.declared.Entry.{Entry}
-use Rattle.engine.specs.declared.Lookup.{Lookup}
+use Rattle.sheets.specs.declared.Lookup.{Lookup}
 use Rattle.engine.specs.Answer.{refusalOf, mOf, xOf, yOf, kindOf}
-use Rattle.engine.specs.Sheets.{lookupOf}
+use Rattle.sheets.specs.Sheets.{lookupOf}
 use Rattle.engine.specs.Rules.{fresh}
 use Rattle.ledger.specs.Claim.{Line, transcript}
 

@@ -12,14 +12,15 @@ use Rattle.exact.specs.Equation.{exactWet}
 use Rattle.exact.specs.Signal.{exactSignal, exactAgainst}
 use Rattle.layout.specs.Records.{sheetAt}
 use Rattle.engine.specs.declared.Loaded.{Loaded}
-use Rattle.engine.specs.declared.Mode.{Mode}
-use Rattle.engine.specs.declared.Measurement.{Measurement}
+use Rattle.sampling.specs.declared.Mode.{Mode}
+use Rattle.sampling.specs.declared.Measurement.{Measurement}
 use Rattle.engine.specs.declared.Event.{Event}
 use Rattle.engine.specs.declared.Entry.{Entry}
 use Rattle.engine.specs.declared.Answer.{Answer}
 use Rattle.engine.specs.Answer.{mOf, accepted, kindOf}
-use Rattle.engine.specs.Sheets.{asSheet}
-use Rattle.engine.specs.Sample.{airOf}
+use Rattle.counting.specs.Integration.{integrationLimit}
+use Rattle.sheets.specs.Sheets.{asSheet}
+use Rattle.sampling.specs.Sample.{airOf}
 
 -- a sheet, Q, S, a mode, and a series of exact values that runs or doesn't
 pub record Ledger : Type 0 where
@@ -64,7 +65,7 @@ refusedBy g entry = cond (eqb (kindOf entry) 6) (withSeries g (g .series) false)
 -- a running series takes the value at its end; after the 600,000th it no longer runs
 abbrev pub taken : Ledger → Fraction → Ledger
 taken g x =
-    cond (g .runs) (withSeries g (g .series ++ (x ∷ [])) (not (eqb (length (g .series) + 1) 600000))) g
+    cond (g .runs) (withSeries g (g .series ++ (x ∷ [])) (not (eqb (length (g .series) + 1) integrationLimit))) g
 
 abbrev pub acceptedBy : List ℕ → Ledger → Entry → Answer → Ledger
 acceptedBy sheets g (Entry.Known (Event.Load index)) a = settled (Loaded.One (asSheet (sheetAt sheets (24 * index)))) (pos 0) 1000000 Mode.Absolute

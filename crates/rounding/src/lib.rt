@@ -9,6 +9,7 @@ use crate::signed::positive;
 use crate::signed::product;
 
 pub mod signed;
+pub mod widths;
 
 // Document 01's near(a/b): the nearest whole number to a / b, a half going up.
 pub fn near(a: i64, b: u64) -> i64

@@ -1,5 +1,5 @@
 -- `area_in` meets its contract, case by case. Assumes nothing.
-use Rattle.engine.proofs.Workable.{running-in, closed-in}
+use Rattle.counting.proofs.Within.{running-in, closed-in}
 use borrow.Author.Needs.{needs}
 use Rattle.engine.proofs.rules.area_in.Statement.{statement}
 use Rattle.engine.proofs.rules.area_in.Tie as tie

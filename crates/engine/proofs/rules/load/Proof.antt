@@ -1,6 +1,6 @@
 -- `load` meets its contract: by what the lookup gives. Assumes nothing.
 use mathlib.Core.Path.{sym, _∙_}
-use Rattle.engine.proofs.Numbers.{lookup-number}
+use Rattle.sheets.proofs.Numbers.{lookup-number}
 use borrow.Author.Needs.{needs}
 use Rattle.engine.proofs.rules.load.Statement.{statement}
 use Rattle.engine.proofs.rules.load.Tie as tie

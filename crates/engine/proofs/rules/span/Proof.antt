@@ -9,15 +9,17 @@ use mir.Syntax.{w32, w64}
 use mir.Val.{SFits}
 use Rattle.curve.specs.declared.Sheet.{Sheet}
 use Rattle.curve.specs.Limits.{within}
+use Rattle.curve.proofs.Within.{range}
 use Rattle.reference.specs.declared.Found.{Found}
 use Rattle.reference.specs.Search.{spanOf}
 use Rattle.engine.specs.declared.Loaded.{Loaded}
-use Rattle.engine.specs.declared.Mode.{Mode}
+use Rattle.sampling.specs.declared.Mode.{Mode}
 use Rattle.engine.specs.declared.State.{State}
-use Rattle.engine.specs.declared.Measurement.{Measurement}
-use Rattle.engine.specs.Sample.{airOf, inputWithin}
+use Rattle.sampling.specs.declared.Measurement.{Measurement}
+use Rattle.sampling.specs.Sample.{airOf, inputWithin}
 use Rattle.engine.specs.Rules.{needingSheet, spanBy, spanIn, spanRule}
-use Rattle.engine.proofs.Workable.{input-ok, range, work, sheet-in}
+use Rattle.sampling.proofs.Within.{input-ok}
+use Rattle.engine.proofs.Workable.{work, sheet-in}
 use Rattle.engine.proofs.rules.span.Statement.{statement}
 use Rattle.engine.proofs.rules.span.Tie as tie
 

@@ -1,0 +1,46 @@
+-- `integration_within` meets its contract, case by case. Assumes nothing.
+use mathlib.Core.Path.{sym, _∙_}
+use borrow.Author.Needs.{needs}
+use Rattle.counting.proofs.limits.integration_within.Statement.{statement}
+use Rattle.counting.proofs.limits.integration_within.Tie as tie
+
+enum-told : tie.Need-enum-told
+enum-told c = search needs
+
+enum-known-i : tie.Need-enum-known-i
+enum-known-i c = search needs
+
+tally-within-requires : tie.Need-tally-within-requires
+tally-within-requires c κs = search needs
+
+enum-known-i-2 : tie.Need-enum-known-i-2
+enum-known-i-2 c = search needs
+
+tally-within-requires-2 : tie.Need-tally-within-requires-2
+tally-within-requires-2 c κs = search needs
+
+returns : tie.Need-returns
+returns c = search needs
+
+returns-2 : tie.Need-returns-2
+returns-2 c = rw (c .before .before .before .before .i .given .1, sym (c .before .before .tally-within .ensures) ∙ c .before .if1 .taken)
+
+returns-3 : tie.Need-returns-3
+returns-3 c = rw (c .before .before .before .i .given .1, sym (c .before .tally-within .ensures) ∙ c .if1 .left) (search needs)
+
+returns-4 : tie.Need-returns-4
+returns-4 c = rw (c .tally-within2 .ensures, c .before .before .i2 .given .1)
+
+pub integration-within-spec : {M : Type 1} → statement M
+integration-within-spec =
+    tie.close
+    (tie.spec
+    enum-told
+    enum-known-i
+    tally-within-requires
+    enum-known-i-2
+    tally-within-requires-2
+    returns
+    returns-2
+    returns-3
+    returns-4)

@@ -1,0 +1,2 @@
+pub mod Integration
+pub mod Limits

@@ -17,7 +17,7 @@ use Rattle.format.specs.Header.{eventCount, wellFormed}
 use Rattle.ledger.specs.Claim.{Line}
 use Rattle.session.specs.Run.{recordOf, outputOf}
 use Rattle.session.specs.Claim.{LineIs}
-use Rattle.session.proofs.Fits.{Fit}
+use Rattle.ledger.proofs.Fits.{Fit}
 use Rattle.session.proofs.Claim.{line-below, line-fit, line-read, length-output}
 use Rattle.host.specs.Doubles.{belowLimit, hostSample, hostArea, hostSampleIn, hostAreaIn}
 use Rattle.host.specs.Every.{GivenAsSample, GivenAsArea, EveryReading, EveryArea}

@@ -25,6 +25,7 @@ use Rattle.counting.specs.Integration.{tallyArea}
 use Rattle.sampling.specs.Sample.{modeWithin}
 use Rattle.engine.specs.Rules.{answered, refused, rules}
 use Rattle.engine.specs.Step.{loadedWithin, workable}
+use Rattle.engine.proofs.Inversion.{wet-in}
 use Rattle.engine.proofs.Cases.{closing, Ruled, refuses, malformed, loads, zeroes, spans, refers, absolute, samples, closes, starts, stops, totals, ruled}
 use Rattle.ledger.specs.Ledger.{Ledger, withSeries, taken, exactValue, refusedBy, ledgerStep}
 use Rattle.ledger.specs.Wets.{wetsStep}
@@ -134,7 +135,7 @@ module _ (sheets : List ℕ) (st : State) {ws : List ℤ} {xs : List Fraction} {
   good absolute = makes [] false tt tt (record { sheet = h .sheet; zero = h .zero; span-low = h .span-low; span-high = h .span-high; gas = refl }) idle refl
   good (samples {at} {r} x) =
       let w = sample-worth st xs b (h .sheet) at x in
-      makes (takenAtEnd xs b (exactValue g at r)) (takenRuns xs b) tt (w .holds) h (keeps-counted k (w .near) (w .small)) (taken-is (exactValue g at r))
+      makes (takenAtEnd xs b (exactValue g at r)) (takenRuns xs b) tt (w .holds) h (keeps-counted k (w .near) (wet-in (h .sheet) x)) (taken-is (exactValue g at r))
   good (closes {number = number} n) = refusal number false n tt h (keeps-closed k) refl
   good starts = makes [] true tt tt h started refl
   good stops = makes xs false tt tt h (keeps-closed k) refl

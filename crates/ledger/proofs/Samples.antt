@@ -3,13 +3,13 @@
 use mathlib.Core.Bool.{Bool, true}
 use mathlib.Core.List.{List}
 use mathlib.Core.Path.{_≡_, refl, ap, subst}
-use Prim.Native.Nat.{ℕ, _≤_, _<_}
+use Prim.Native.Nat.{ℕ, _<_}
 use native.Mathlib.Omega.{arith}
-use lib.IntN.{ℤ, pos, natAbs}
+use lib.IntN.{ℤ, pos}
 use Rattle.rounding.proofs.Difference.{is-nat, of-lt}
 use Rattle.curve.specs.declared.Sheet.{Sheet}
 use Rattle.curve.specs.Limits.{SheetOk, AirOk}
-use Rattle.curve.proofs.Accepted.{accepted, value-size}
+use Rattle.curve.proofs.Accepted.{accepted}
 use Rattle.reference.specs.declared.Found.{Found}
 use Rattle.reference.specs.Search.{referenceRefusal, foundValue, referenceOf}
 use Rattle.reference.proofs.Bracket.{at-reference, below-reference}
@@ -35,11 +35,10 @@ use Rattle.ledger.specs.Claim.{AtSignal, SampleHolds}
 abbrev pub ledgerAt : State → List Fraction → Bool → Ledger
 ledgerAt st xs b = record { sheet = st .loaded; q = st .q; s = st .s; mode = st .mode; series = xs; runs = b }
 
--- an accepted sample holds, lies within 1,800 of its exact value in either mode, and is at most 3,000,000,000
+-- an accepted sample holds, and lies within 1,800 of its exact value in either mode
 pub record Worth (g : Ledger) (at : Measurement) (r : ℕ) (wet dry : ℤ) : Type 0 where
   pub holds : SampleHolds g at r wet dry
   pub near : LiesWithin wet againstBound (exactValue g at r)
-  pub small : natAbs wet ≤ 3000000000
 
 -- ---- the reference signal that is answered
 found-at : (f : Found) (r : ℕ) → referenceRefusal f ≡ 0 → r ≡ foundValue f → f ≡ Found.At r
@@ -76,7 +75,6 @@ module _ (st : State) (xs : List Fraction) (b : Bool) (s : Sheet) (okS : SheetOk
       record {
         holds = record { wet-holds = rw (loaded, m) near; dry-holds = rw (loaded, m, x .dry-is) dry-near; signal-holds = rw (loaded, m) (x .signal-is) };
         near = rw (loaded, m) (lies-weaken near againstBound (omega arith));
-        small = value-size s (airOf at) okS okA (accepted s _ (airOf at) wet (x .wet-is));
       }
   worth (Mode.Against gas) m x =
       let okA = input-ok at (x .input) .air in
@@ -89,7 +87,6 @@ module _ (st : State) (xs : List Fraction) (b : Bool) (s : Sheet) (okS : SheetOk
       record {
         holds = record { wet-holds = rw (loaded, m) near; dry-holds = rw (loaded, m, x .dry-is) dry-near; signal-holds = rw (loaded, m) (signal-at s okS at gas okR r f) };
         near = rw (loaded, m) near;
-        small = value-size s (airOf at) okS okA (accepted s _ (airOf at) wet reads);
       }
 
 -- the sample under whatever is loaded, with what a search finds there

@@ -1,4 +1,5 @@
 pub mod Ledger
 pub mod Wets
+pub mod Small
 pub mod Claim
 pub mod Example

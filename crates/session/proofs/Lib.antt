@@ -1,4 +1,3 @@
-pub mod Fits
 pub mod Turn
 pub mod Outcome
 pub mod Printing

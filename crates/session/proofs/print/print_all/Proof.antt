@@ -5,7 +5,7 @@ use mathlib.Core.Path.{ap, _∙_}
 use Rattle.engine.specs.Step.{stepOf}
 use borrow.Author.Needs.{needs}
 use Prim.Native.Nat.{_-_}
-use Rattle.session.proofs.Fits.{fits}
+use Rattle.ledger.proofs.Fits.{fits}
 use Rattle.session.proofs.Printing.{Printing, printing, printed, finished}
 use Rattle.session.proofs.print.print_all.Statement.{statement}
 use Rattle.session.proofs.print.print_all.Tie as tie

@@ -69,6 +69,13 @@ fn put_decimal(out: &mut [u8], at: usize, n: u64) -> usize
     }
 }
 
+// How many digits a number has in decimal, so that it can be set to the right of a column before it is put.
+pub fn digits(n: u64) -> usize
+    ensures { λ r. ⌜ r ≡ length (decimal n) ⌝ }
+{
+    if n >= 10 { 1 + digits(n / 10) } else { 1 }
+}
+
 // Puts a byte.
 fn put_byte(out: &mut [u8], at: usize, b: u8) -> usize
     requires { ⌜ at < length (now out) ⌝ }

@@ -1,15 +1,13 @@
 -- `text::put_decimal` meets its contract: a number of one digit is put as it is, any other by the digits of its tenth and its last
 -- one. The measure is the number. Assumes nothing.
 use mathlib.Core.List.{[], _∷_}
-use mathlib.Core.Path.{_≡_, ap}
-use Prim.Native.Nat.{ℕ, _+_, _/_, _%_, _<_, _≤_}
+use Prim.Native.Nat.{ℕ, _+_, _/_, _%_, _<_}
 use native.Mathlib.Omega.{arith}
-use lib.ListN.{length, length-append}
 use borrow.Author.Needs.{needs}
 use borrow.Fn.Kinds.{In}
 use borrow.Fn.PlainCycle.{Measures, is, falls, and}
 use Rattle.text.specs.Line.{decimal}
-use Rattle.text.proofs.Digits.{one-digit, last-digit}
+use Rattle.text.proofs.Decimal.{one-digit, last-digit, one-long, one-longer}
 use Rattle.text.proofs.Pieces.{both}
 use Rattle.text.proofs.put_decimal.Reads as self
 use Rattle.text.proofs.put_decimal.Kinds as kinds
@@ -33,10 +31,6 @@ claims t = (
 )
 
 module _ (t : ℕ) where
-  longer : (s : lts.Start (claims t) (here t) self.Post) → 10 ≤ s .args .n
-      → length (decimal (s .args .n)) ≡ length (decimal (s .args .n / 10)) + 1
-  longer s h = rw (last-digit (s .args .n) h (omega arith), length-append)
-
   cast-put-byte : lts.Need-cast-put-byte (claims t) (here t) self.Post
   cast-put-byte c = search needs
 
@@ -44,10 +38,10 @@ module _ (t : ℕ) where
   add-put-byte c = search needs
 
   put-byte-requires : lts.Need-put-byte-requires (claims t) (here t) self.Post
-  put-byte-requires c κs = omega (arith, ap length (one-digit (c .before .before .before .args .n) (c .before .if1 .taken)))
+  put-byte-requires c κs = omega (arith, one-long (c .before .before .before .args .n) (c .before .if1 .taken))
 
   put-decimal-requires : lts.Need-put-decimal-requires (claims t) (here t) self.Post
-  put-decimal-requires c κs = let e = longer (c .before .before .before) (c .before .if1 .left) in (omega arith, omega arith)
+  put-decimal-requires c κs = let e = one-longer (c .before .before .before .args .n) (c .before .if1 .left) (omega arith) in (omega arith, omega arith)
 
   cast-put-byte-2 : lts.Need-cast-put-byte-2 (claims t) (here t) self.Post
   cast-put-byte-2 c = search needs
@@ -58,7 +52,7 @@ module _ (t : ℕ) where
   put-byte-requires-2 : lts.Need-put-byte-requires-2 (claims t) (here t) self.Post
   put-byte-requires-2 c κs =
       let b = c .before .before .before in
-      let e = longer (b .before .before .before .before) (b .before .before .if1 .left) in
+      let e = one-longer (b .before .before .before .before .args .n) (b .before .before .if1 .left) (omega arith) in
       omega arith
 
   same-length : lts.Need-same-length (claims t) (here t) self.Post

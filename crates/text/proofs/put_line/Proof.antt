@@ -9,7 +9,7 @@ use mir.Val.{toZ, ofZ}
 use borrow.Author.Needs.{needs}
 use Rattle.text.specs.Line.{lineRoom}
 use Rattle.text.specs.Line.{decimal, signedDecimal, lineOf}
-use Rattle.text.proofs.Digits.{line-fits}
+use Rattle.text.proofs.Decimal.{line-fits}
 use Rattle.text.proofs.Pieces.{seven}
 use Rattle.text.proofs.put_line.Statement.{statement}
 use Rattle.text.proofs.put_line.Tie as tie

@@ -6,7 +6,7 @@ use lib.ListN.{length}
 use mir.Facts.{toZ-ofZ}
 use borrow.Author.Needs.{needs}
 use Rattle.text.specs.Line.{decimal}
-use Rattle.text.proofs.Digits.{with-minus, as-it-is}
+use Rattle.text.proofs.Decimal.{with-minus, as-it-is}
 use Rattle.text.proofs.Pieces.{both}
 use Rattle.text.proofs.put_signed.Statement.{statement}
 use Rattle.text.proofs.put_signed.Tie as tie

@@ -50,6 +50,13 @@ pub last-digit : (n : ℕ) → 10 ≤ n → n < 2 ^ 64 → decimal n ≡ decimal
 unfolding decimal
 last-digit n h b = rw (le-ltb n 10 h, more 18 (n / 10) (omega arith))
 
+-- and their lengths
+pub one-long : (n : ℕ) → n < 10 → length (decimal n) ≡ 1
+one-long n h = rw (one-digit n h)
+
+pub one-longer : (n : ℕ) → 10 ≤ n → n < 2 ^ 64 → length (decimal n) ≡ length (decimal (n / 10)) + 1
+one-longer n h b = rw (last-digit n h b, length-append)
+
 -- a signed number by its sign
 negative : (x : ℤ) → ltZ x (pos 0) ≡ true → signedDecimal x ≡ 45 ∷ decimal (natAbs x)
 unfolding signedDecimal

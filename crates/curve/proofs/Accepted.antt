@@ -22,7 +22,6 @@ use Rattle.curve.proofs.Order.{reduced-nonnegative, wet-nonnegative}
 
 pub record Accepted (s : Sheet) (v : ℤ) (a : Air) (c : ℤ) : Type 0 where
   pub from-0 : pos 0 ≤ℤ v
-  pub to-range : v ≤ℤ pos 150000000
   pub below-k : v <ℤ pos (s .k)
   pub z-high : reducedOf v a ≤ℤ pos 100000000
   pub c-high : c ≤ℤ pos 3000000000
@@ -83,7 +82,6 @@ accepted s v a c q =
     let e = value-same (q4 .1) in
     record {
       from-0 = lt-false v (pos 0) (q0 .0);
-      to-range = lt-false (pos 150000000) v (q1 .0);
       below-k = le-false (pos (s .k)) v (q2 .0);
       z-high = lt-false (pos 100000000) z (q3 .0);
       c-high = subst (λ (x : ℤ). x ≤ℤ pos 3000000000) e (lt-false (pos 3000000000) w (q4 .0));

@@ -6,7 +6,7 @@ use borrow.Author.Needs.{needs}
 use mir.Facts.{toZ-ofZ}
 use mir.Syntax.{w64}
 use mir.Val.{SFits}
-use lib.IntN.{ℤ, pos, natAbs, _+ℤ_, _*ℤ_}
+use lib.IntN.{pos, natAbs, _+ℤ_, _*ℤ_}
 use Rattle.rounding.specs.Near.{nearest}
 use Rattle.rounding.proofs.Integers.{abs-add, abs-mul, prod}
 use Rattle.rounding.proofs.Nearest.{near-size}

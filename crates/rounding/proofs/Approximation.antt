@@ -46,7 +46,8 @@ module _ {c n : ℤ} {d E S : ℕ} (w : Within c n d E S) where
           is-eq (is-scale d (is-minus (is-scale f C) M)) (is-minus (is-scale (f * d) C) (is-scale d M)) (omega arith) in
           let r : (c *ℤ pos d -ℤ n) *ℤ pos f ≡ c *ℤ pos (f * d) -ℤ n *ℤ pos f =
           is-eq (is-scale f (is-minus (is-scale d C) N)) (is-minus (is-scale (f * d) C) (is-scale f N)) (omega arith) in
-          omega (arith, abs-mul (c *ℤ pos f -ℤ m) (pos d), abs-mul (c *ℤ pos d -ℤ n) (pos f), ap natAbs q, ap natAbs r, ap (λ (x : ℤ). natAbs (c *ℤ pos (f * d) -ℤ x)) e)
+          let s = ap (λ (x : ℤ). natAbs (c *ℤ pos (f * d) -ℤ x)) e in
+          omega (arith, abs-mul (c *ℤ pos f -ℤ m) (pos d), abs-mul (c *ℤ pos d -ℤ n) (pos f), ap natAbs q, ap natAbs r)
 
       core : (y u : ℕ) → y * d ≡ u * f → u * S ≤ E * d → d * (y * S) ≤ d * (E * f)
       core y u q k = omega (arith, mul-le-mul-right f k, ap (λ (x : ℕ). x * S) q)
@@ -137,7 +138,8 @@ module _ {a b n k : ℤ} {d f E F S : ℕ} (w : Within a n d E S) (x : Within b 
       let t = triangle 1 y (u *ℤ (b *ℤ pos f)) (n *ℤ v)
       (is-eq (is-scale 1 (is-minus (is-scale (d * f) (is-mul A B)) (is-mul N K)))
       (is-add (is-mul (is-minus (is-scale d A) N) (is-scale f B)) (is-mul N (is-minus (is-scale f B) K))) (omega arith)) in
-      record { within = core (natAbs y) (natAbs b) (natAbs n) (natAbs u) (natAbs v) (rw (abs-mul u (b *ℤ pos f), abs-mul b (pos f), abs-mul n v) at t) h l (w .within) (x .within) }
+      let sum = rw (abs-mul u (b *ℤ pos f), abs-mul b (pos f), abs-mul n v) at t in
+      record { within = core (natAbs y) (natAbs b) (natAbs n) (natAbs u) (natAbs v) sum h l (w .within) (x .within) }
     where
       core : (y b n u v : ℕ) → y * 1 ≤ u * (b * f) + n * v → b ≤ H → n ≤ X * d → u * S ≤ E * d → v * S ≤ F * f → y * S ≤ (H * E + X * F) * (d * f)
       core y b n u v t p q g h =

@@ -10,7 +10,8 @@ use lib.Dec.{T}
 use lib.IntN.{ℤ, pos, negsuc, negℤ, natAbs, _+ℤ_, _-ℤ_, _*ℤ_}
 use lib.Signed.{ltZ, _≤ℤ_}
 use Rattle.rounding.specs.Near.{floor, nearest}
-use Rattle.rounding.proofs.Difference.{Is, is-nat, is-add, is-minus, is-mul, is-neg, is-scale, is-parts, is-eq, is-le, of-le, up, down, abs-le, of-abs-le}
+use Rattle.rounding.proofs.Difference.{Is, is-nat, is-add, is-minus, is-mul, is-neg, is-scale, is-parts, is-eq, is-le, of-le, up, down}
+use Rattle.rounding.proofs.Difference.{abs-le, of-abs-le}
 use Rattle.rounding.proofs.Machine.{not-below-0}
 
 -- ---- where it lies
@@ -40,7 +41,8 @@ near-half a b h =
     record { half = abs-le b (is-mul (is-nat 2) (is-minus (is-scale b (is-parts (nearest a b))) (is-parts a))) (omega arith) (omega arith) }
 
 -- two sides of the half step, over the naturals
-pub half-sides : {r a : ℤ} {b x y p n : ℕ} → Half r a b → Is r x y → Is a p n → (2 * (x * b) + 2 * n ≤ 2 * (y * b) + 2 * p + b) × (2 * (y * b) + 2 * p ≤ 2 * (x * b) + 2 * n + b)
+pub half-sides : {r a : ℤ} {b x y p n : ℕ} → Half r a b → Is r x y → Is a p n
+    → (2 * (x * b) + 2 * n ≤ 2 * (y * b) + 2 * p + b) × (2 * (y * b) + 2 * p ≤ 2 * (x * b) + 2 * n + b)
 half-sides {b} w R A =
     let l = of-abs-le b (is-mul (is-nat 2) (is-minus (is-scale b R) A)) (w .half) in
     omega arith

@@ -16,8 +16,7 @@ use mir.Val.{SFits}
 use Rattle.io.specs.Counts.{Counts}
 use Rattle.io.specs.Digits.{digits, Fewest}
 use Rattle.layout.specs.declared.AnswerRecord.{AnswerRecord}
-use Rattle.text.specs.Line.{lineRoom}
-use Rattle.text.specs.Line.{decimalIn, decimal, signedDecimal, lineOf}
+use Rattle.text.specs.Line.{decimalIn, decimal, signedDecimal, lineOf, lineRoom}
 
 -- a number's digits, by the test whether it has one, and by those of its tenth
 abbrev digitsBy : Bool → ℕ → List ℕ → List ℕ

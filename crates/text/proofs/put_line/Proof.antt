@@ -7,8 +7,7 @@ use lib.ListN.{length, length-append}
 use mir.Syntax.{w64}
 use mir.Val.{toZ, ofZ}
 use borrow.Author.Needs.{needs}
-use Rattle.text.specs.Line.{lineRoom}
-use Rattle.text.specs.Line.{decimal, signedDecimal, lineOf}
+use Rattle.text.specs.Line.{decimal, signedDecimal, lineOf, lineRoom}
 use Rattle.text.proofs.Decimal.{line-fits}
 use Rattle.text.proofs.Pieces.{seven}
 use Rattle.text.proofs.put_line.Statement.{statement}
@@ -105,13 +104,13 @@ put-spaced-signed-requires : tie.Need-put-spaced-signed-requires
 put-spaced-signed-requires c κs = omega (arith, sum (of-m (c .before .before .before .before)))
 
 put-spaced-signed-requires-2 : tie.Need-put-spaced-signed-requires-2
-put-spaced-signed-requires-2 c κs = omega (arith, sum (of-x (c .before .before .before .before)), half (c .before .before .before .before .before .before .before .before .before))
+put-spaced-signed-requires-2 c κs = let x = c .before .before .before .before in omega (arith, sum (of-x x), half (x .before .before .before .before .before))
 
 put-byte-requires : tie.Need-put-byte-requires
-put-byte-requires c κs = omega (arith, sum (of-y (c .before .before .before)), half (c .before .before .before .before .before .before .before .before .before .before .before .before .before))
+put-byte-requires c κs = let y = c .before .before .before in omega (arith, sum (of-y y), half (y .before .before .before .before .before .before .before .before .before .before))
 
 same-length : tie.Need-same-length
-same-length c = omega (arith, half (c .before .before .before .before .before .before .before .before .before .before .before .before .before .before .before .before))
+same-length c = let y = c .before .before .before .before .before .before in omega (arith, half (y .before .before .before .before .before .before .before .before .before .before))
 
 returns : tie.Need-returns
 unfolding lineOf

@@ -3,12 +3,13 @@
 -- Assumes nothing.
 use mathlib.Core.Path.{_≡_, ap}
 use Prim.Native.Nat.{ℕ, _+_, _*_, _≤_, _<_}
-use native.Mathlib.Nat.{mul-le-mul-left, mul-le-mul-right, le-of-mul-le-mul-left}
+use native.Mathlib.Nat.{mul-pos, mul-le-mul-left, mul-le-mul-right, le-of-mul-le-mul-left}
 use native.Mathlib.Omega.{arith}
 use lib.IntN.{ℤ, pos, negℤ, natAbs, _+ℤ_, _-ℤ_, _*ℤ_}
+use Rattle.rounding.specs.Near.{nearest}
 use Rattle.rounding.proofs.Difference.{is-eq, is-nat, is-add, is-minus, is-mul, is-scale, is-parts, abs-le}
 use Rattle.rounding.proofs.Integers.{abs-neg, abs-add, abs-mul}
-use Rattle.rounding.proofs.Nearest.{Half}
+use Rattle.rounding.proofs.Nearest.{Half, near-half}
 
 pub record Within (c num : ℤ) (den E S : ℕ) : Type 0 where
   pub within : natAbs (c *ℤ pos den -ℤ num) * S ≤ E * den
@@ -103,6 +104,11 @@ module _ {c n : ℤ} {d E S : ℕ} (w : Within c n d E S) where
     where
       core : (b y q u : ℕ) → y * 2 ≤ q * d + u * 2 → q ≤ b → u * S ≤ E * d → y * (2 * b * S) ≤ (2 * E + b * S) * (d * b)
       core b y q u t k l = omega (arith, mul-le-mul-right (b * S) t, mul-le-mul-right (d * b * S) k, mul-le-mul-right (2 * b) l)
+
+-- a rounded step: what is E / S off is at most F / R off once it is divided by b and rounded, where the numbers say so
+pub within-near : {c n : ℤ} {d E S F R : ℕ} → Within c n d E S → {b : ℕ} → 0 < b → 0 < S → (2 * E + b * S) * R ≤ F * (2 * b * S)
+    → Within (nearest c b) n (d * b) F R
+within-near {c} {F} {R} w {b} h s l = within-weaken (within-round w (near-half c b h)) F R (mul-pos (omega arith) s) l
 
 -- ---- two values
 module _ {a b n k : ℤ} {d f E F S : ℕ} (w : Within a n d E S) (x : Within b k f F S) where

@@ -132,18 +132,5 @@ returns-6 c =
 
 pub absolute-spec : {M : Type 1} → statement M
 absolute-spec =
-    tie.close
-    (tie.spec
-    below-zero-requires
-    returns
-    above-requires
-    returns-2
-    at-least-requires
-    returns-3
-    reduced-requires
-    above-requires-2
-    returns-4
-    wet-requires
-    above-requires-3
-    returns-5
-    returns-6)
+    tie.close (tie.spec below-zero-requires returns above-requires returns-2 at-least-requires returns-3 reduced-requires above-requires-2
+    returns-4 wet-requires above-requires-3 returns-5 returns-6)

@@ -101,14 +101,5 @@ returns-3 c =
 
 pub span-setting-spec : {M : Type 1} → statement M
 span-setting-spec =
-    tie.close
-    (tie.spec
-    difference-requires
-    at-least-requires
-    returns
-    search-requires
-    enum-told
-    enum-told-2
-    returns-2
-    search-requires-2
+    tie.close (tie.spec difference-requires at-least-requires returns search-requires enum-told enum-told-2 returns-2 search-requires-2
     returns-3)

@@ -66,13 +66,5 @@ returns-2 c =
 
 pub near-spec : {M : Type 1} → statement M
 near-spec =
-    tie.close
-    (tie.spec
-    magnitude-requires
-    sub-quotient
-    quotient-requires
-    negative-requires
-    quotient-requires-2
-    positive-requires
-    returns
+    tie.close (tie.spec magnitude-requires sub-quotient quotient-requires negative-requires quotient-requires-2 positive-requires returns
     returns-2)

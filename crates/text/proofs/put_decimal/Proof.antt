@@ -51,15 +51,5 @@ returns c =
 
 pub put-decimal-spec : {M : Type 1} → statement M
 put-decimal-spec =
-    tie.close
-    (tie.spec
-    decimal-requires
-    array-share-prefix-text
-    slice-aggregate-copy
-    sub-copy
-    part-copy-start
-    part-copy-end
-    copy-requires
-    add-result
-    same-length
-    returns)
+    tie.close (tie.spec decimal-requires array-share-prefix-text slice-aggregate-copy sub-copy part-copy-start part-copy-end copy-requires
+    add-result same-length returns)

@@ -133,17 +133,5 @@ returns c =
 
 pub put-line-spec : {M : Type 1} → statement M
 put-line-spec =
-    tie.close
-    (tie.spec
-    put-decimal-requires
-    cast-put-spaced
-    put-spaced-requires
-    cast-put-spaced-2
-    put-spaced-requires-2
-    cast-put-spaced-3
-    put-spaced-requires-3
-    put-spaced-signed-requires
-    put-spaced-signed-requires-2
-    put-byte-requires
-    same-length
-    returns)
+    tie.close (tie.spec put-decimal-requires cast-put-spaced put-spaced-requires cast-put-spaced-2 put-spaced-requires-2 cast-put-spaced-3
+    put-spaced-requires-3 put-spaced-signed-requires put-spaced-signed-requires-2 put-byte-requires same-length returns)

@@ -45,13 +45,4 @@ returns-5 c =
 
 pub sheet-within-spec : {M : Type 1} → statement M
 sheet-within-spec =
-    tie.close
-    (tie.spec
-    within-requires
-    returns
-    returns-2
-    returns-3
-    within-requires-2
-    returns-4
-    within-requires-3
-    returns-5)
+    tie.close (tie.spec within-requires returns returns-2 returns-3 within-requires-2 returns-4 within-requires-3 returns-5)

@@ -22,7 +22,6 @@ use Rattle.curve.proofs.Order.{reduced-nonnegative, wet-nonnegative}
 
 pub record Accepted (s : Sheet) (v : ℤ) (a : Air) (c : ℤ) : Type 0 where
   pub from-0 : pos 0 ≤ℤ v
-  pub to-range : v ≤ℤ pos 150000000
   pub below-k : v <ℤ pos (s .k)
   pub z-high : reducedOf v a ≤ℤ pos 100000000
   pub c-high : c ≤ℤ pos 3000000000
@@ -51,14 +50,16 @@ refused OverRange t = inr refl
 pub not-below-zero : (s : Sheet) (v : ℤ) (a : Air) → pos 0 ≤ℤ v → absoluteOf s v a ≡ BelowZero → ⊥
 unfolding absoluteOf
 not-below-zero s v a h p =
-    not-over (signalHigh v) _ (not-over (signalAtK s v) _ (not-over (reducedHigh (reducedOf v a)) _ (not-over (wetHigh (wetOf s (reducedOf v a) a)) _ (λ q. not-below (wetOf s (reducedOf v a) a) (sym q)))))
+    let z = reducedOf v a in let c = wetOf s z a in
+    not-over (signalHigh v) _ (not-over (signalAtK s v) _ (not-over (reducedHigh z) _ (not-over (wetHigh c) _ (λ q. not-below c (sym q)))))
     (rw (false-lt v (pos 0) h) at p)
   where
     not-over : (x : Bool) (q : Reading) → (q ≡ BelowZero → ⊥) → unlessOver x q ≡ BelowZero → ⊥
     not-over true q f p = let z : _≡_ {A = ℕ} 0 1 = cc in omega arith
     not-over false q f p = f p
 
-pub over-range : (s : Sheet) (v : ℤ) (a : Air) {r : Reading} → pos 0 ≤ℤ v → r ≡ absoluteOf s v a → OneOf (1 ∷ 2 ∷ []) (tagOf the-type r) → absoluteOf s v a ≡ OverRange
+pub over-range : (s : Sheet) (v : ℤ) (a : Air) {r : Reading} → pos 0 ≤ℤ v → r ≡ absoluteOf s v a → OneOf (1 ∷ 2 ∷ []) (tagOf the-type r)
+    → absoluteOf s v a ≡ OverRange
 over-range s v a {r} h e t = ⊎-elim (λ q. absurd (not-below-zero s v a h (sym e ∙ q))) (λ q. sym e ∙ q) (refused r t)
 
 -- a reading past a ground is a value only where the ground fails
@@ -83,7 +84,6 @@ accepted s v a c q =
     let e = value-same (q4 .1) in
     record {
       from-0 = lt-false v (pos 0) (q0 .0);
-      to-range = lt-false (pos 150000000) v (q1 .0);
       below-k = le-false (pos (s .k)) v (q2 .0);
       z-high = lt-false (pos 100000000) z (q3 .0);
       c-high = subst (λ (x : ℤ). x ≤ℤ pos 3000000000) e (lt-false (pos 3000000000) w (q4 .0));

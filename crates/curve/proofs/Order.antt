@@ -4,7 +4,7 @@ use mathlib.Core.Bool.{Bool, true, false}
 use Prim.Native.Nat.{ℕ, _*_, _<_}
 use native.Mathlib.Omega.{arith}
 use lib.Dec.{T}
-use lib.IntN.{ℤ, pos, _+ℤ_, _*ℤ_, zero-*ℤ}
+use lib.IntN.{ℤ, pos, zero-*ℤ}
 use lib.Signed.{ltZ, leZ, _≤ℤ_, ≤ℤ-refl, <ℤ-≤ℤ-trans}
 use Rattle.rounding.proofs.Integers.{≤ℤ-trans, +ℤ-mono, *ℤ-mono, scale-mono, nonnegative-add, nonnegative-mul, nonnegative-scale}
 use borrow.Author.Tests.{lt-leb}

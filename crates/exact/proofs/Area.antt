@@ -2,7 +2,7 @@
 -- the n values counts twice, and n − 1 times the first and the last. Assumes nothing.
 use mathlib.Core.List.{List, [], _∷_, _++_}
 use mathlib.Core.Path.{_≡_, refl}
-use Prim.Native.Nat.{ℕ, zero, suc, _+_, _*_, _-_}
+use Prim.Native.Nat.{ℕ, zero, suc, _*_, _-_}
 use native.Mathlib.Nat.{le-refl, mul-pos}
 use native.Mathlib.Omega.{arith}
 use lib.IntN.{ℤ, pos}
@@ -40,7 +40,7 @@ pub area-distance : {ws : List ℤ} {xs : List Fraction} → EachWithin ws xs �
 unfolding areaOf exactArea
 area-distance {ws} {xs} r =
     let n = length xs in let g = sum-distance r in let first = at-place r 0 in let last = at-place r (n - 1) in
+    let ends = within-scale (within-sum (lies-approx first) (lies-approx last)) (n - 1) (le-refl (n - 1)) in
     rw (same-length r)
     (approx-lies (mul-pos (g .lower) (mul-pos (first .lower) (last .lower)))
-    (within-weaken (within-difference (within-scale (lies-approx g) 2 (le-refl 2)) (within-scale (within-sum (lies-approx first) (lies-approx last)) (n - 1) (le-refl (n - 1))))
-    (areaBound n) 1 (omega arith) (omega arith)))
+    (within-weaken (within-difference (within-scale (lies-approx g) 2 (le-refl 2)) ends) (areaBound n) 1 (omega arith) (omega arith)))

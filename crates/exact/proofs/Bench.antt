@@ -25,7 +25,8 @@ pub raw-10000000 : LiesWithin (pos 1388160000) 0 (exactWet benchSheet (exactAgai
 unfolding exactWet exactCurve exactReduced exactSignal exactAgainst
 raw-10000000 = computed _ _ _ tt tt
 
-pub raw-minus-10000000 : LiesWithin (pos 695040000) 0 (exactWet benchSheet (exactAgainst (exactSignal (negsuc 9999999) (pos 0) 1000000) 40000000 200000000) benchAir)
+pub raw-minus-10000000 : LiesWithin (pos 695040000) 0
+    (exactWet benchSheet (exactAgainst (exactSignal (negsuc 9999999) (pos 0) 1000000) 40000000 200000000) benchAir)
 unfolding exactWet exactCurve exactReduced exactSignal exactAgainst
 raw-minus-10000000 = computed _ _ _ tt tt
 

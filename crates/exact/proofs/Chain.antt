@@ -3,11 +3,10 @@
 -- h1 (41,001 D + 30,001 kB) / 2,000 D, f (711,020 D + 600,020 kB) / 2,000 D; then g (37,628 + 50,652 k) / 100 and
 -- c 446 + 600 k. Assumes nothing.
 use Prim.Native.Nat.{ℕ, _+_, _*_, _≤_, _<_}
-use native.Mathlib.Nat.{le-refl, mul-pos, mul-le-mul-left}
+use native.Mathlib.Nat.{le-refl, mul-le-mul-left}
 use native.Mathlib.Omega.{arith}
-use lib.IntN.{ℤ, pos, natAbs, _*ℤ_}
-use Rattle.rounding.proofs.Nearest.{near-half}
-use Rattle.rounding.proofs.Approximation.{Within, within-weaken, within-same, within-size, within-add, within-scale, within-round, within-product}
+use lib.IntN.{ℤ, pos, natAbs}
+use Rattle.rounding.proofs.Approximation.{Within, within-weaken, within-same, within-size, within-add, within-scale, within-near, within-product}
 use Rattle.curve.specs.declared.Sheet.{Sheet}
 use Rattle.curve.specs.declared.Air.{Air}
 use Rattle.curve.specs.Limits.{SheetOk, AirOk}
@@ -36,7 +35,8 @@ h1-bound D k = omega arith
 up-bound : (D k : ℕ) → (D + k * 10130000) * (2000 * D) ≤ (1000 * D + 1000 * (k * 10130000)) * (2 * D)
 up-bound D k = omega arith
 
-f-bound : (D k : ℕ) → (2 * (3000000000 * (1000 * D + 1000 * (k * 10130000)) + 100000003 * (41001 * D + 30001 * (k * 10130000))) + 10000000 * (2000 * D)) * (2000 * D)
+f-bound : (D k : ℕ)
+    → (2 * (3000000000 * (1000 * D + 1000 * (k * 10130000)) + 100000003 * (41001 * D + 30001 * (k * 10130000))) + 10000000 * (2000 * D)) * (2000 * D)
     ≤ (711020 * D + 600020 * (k * 10130000)) * (2 * 10000000 * (2000 * D))
 f-bound D k = omega arith
 
@@ -52,8 +52,7 @@ module _ (a : Air) (ok : AirOk a) (k : ℕ) {v : ℤ} {x : Fraction} (w : Approx
   pub z-within : Approx (reducedOf v a) (exactReduced x a) (broadeningOf a + k * 10130000) (2 * broadeningOf a)
   unfolding reducedOf exactReduced
   z-within =
-      within-weaken (within-round (within-scale w 10130000 (le-refl 10130000)) (near-half (v *ℤ pos 10130000) (broadeningOf a) (omega (arith, ok .p-low))))
-      (broadeningOf a + k * 10130000) (2 * broadeningOf a) (omega (arith, ok .p-low)) (z-bound (broadeningOf a) k)
+      within-near (within-scale w 10130000 (le-refl 10130000)) (omega (arith, ok .p-low)) (omega arith) (z-bound (broadeningOf a) k)
 
   -- the exact z is at most 3 above 10^8
   pub exact-z-size : k ≤ 2 → natAbs (reducedOf v a) ≤ 100000000 → natAbs (exactReduced x a .num) ≤ 100000003 * exactReduced x a .den
@@ -64,22 +63,20 @@ module _ (s : Sheet) (ok : SheetOk s) (D k : ℕ) (d : 0 < D) {z : ℤ} {y : Fra
     (size : natAbs z ≤ 100000000) (exact-size : natAbs (y .num) ≤ 100000003 * y .den) where
   h2-within : Approx (slope2Of s z) (exactSlope2 s y) (2 * D + k * 10130000) (2 * D)
   unfolding slope2Of exactSlope2
-  h2-within =
-      within-add (within-weaken (within-round (within-scale w 10000000 (ok .a3-high)) (near-half (z *ℤ pos (s .a3)) 10000000 (omega arith)))
-      (2 * D + k * 10130000) (2 * D) (omega arith) (h2-bound D k)) (pos (s .a2))
+  h2-within = within-add (within-near (within-scale w 10000000 (ok .a3-high)) (omega arith) (omega arith) (h2-bound D k)) (pos (s .a2))
 
   h1-within : Approx (slope1Of s z) (exactSlope1 s y) (41001 * D + 30001 * (k * 10130000)) (2000 * D)
   unfolding slope1Of exactSlope1
   h1-within =
-      within-add (within-weaken (within-round (within-product w h2-within 100000003 200000000 exact-size (slope2-size s ok z size)) (near-half (z *ℤ slope2Of s z) 10000000 (omega arith)))
-      (41001 * D + 30001 * (k * 10130000)) (2000 * D) (omega arith) (h1-bound D k)) (pos (s .a1))
+      let p = within-product w h2-within 100000003 200000000 exact-size (slope2-size s ok z size) in
+      within-add (within-near p (omega arith) (omega arith) (h1-bound D k)) (pos (s .a1))
 
   horner-within : Approx (cubicOf s z) (exactHorner s y) (711020 * D + 600020 * (k * 10130000)) (2000 * D)
   unfolding cubicOf exactHorner
   horner-within =
       let u = within-weaken w (1000 * D + 1000 * (k * 10130000)) (2000 * D) (omega arith) (up-bound D k) in
-      within-weaken (within-round (within-product u h1-within 100000003 3000000000 exact-size (slope1-size s ok z size)) (near-half (z *ℤ slope1Of s z) 10000000 (omega arith)))
-      (711020 * D + 600020 * (k * 10130000)) (2000 * D) (omega arith) (f-bound D k)
+      let p = within-product u h1-within 100000003 3000000000 exact-size (slope1-size s ok z size) in
+      within-near p (omega arith) (omega arith) (f-bound D k)
 
   f-within : 0 < y .den → Approx (cubicOf s z) (exactCurve s y) (711020 * D + 600020 * (k * 10130000)) (2000 * D)
   f-within l = within-same horner-within (exactCurve s y .num) (exactCurve s y .den) (horner-lower s y l) (horner s y)
@@ -90,14 +87,12 @@ module _ (s : Sheet) (okS : SheetOk s) (a : Air) (okA : AirOk a) (k : ℕ) {v : 
   g-within : Approx (moistOf (cubicOf s (reducedOf v a)) a) (exactMoist (exactCurve s (exactReduced x a)) a) (37628 + 50652 * k) 100
   unfolding moistOf
   g-within =
-      let D = broadeningOf a in let f = cubicOf s (reducedOf v a) in
+      let D = broadeningOf a in
       let d : 0 < D = omega (arith, okA .p-low) in
       let u = f-within s okS D k d (z-within a okA k w) size exact-size (reduced-lower a okA x lower) in
-      within-weaken (within-round (within-scale u D (le-refl D)) (near-half (f *ℤ pos D) (100 * a .p) (omega (arith, okA .p-low))))
-      (37628 + 50652 * k) 100 (mul-pos (omega (arith, okA .p-low)) (omega arith)) (g-bound D k (a .p) (omega (arith, okA .e-high)) (okA .p-low))
+      within-near (within-scale u D (le-refl D)) (omega (arith, okA .p-low)) (omega arith) (g-bound D k (a .p) (omega (arith, okA .e-high)) (okA .p-low))
 
   pub wet-within : Approx (wetOf s (reducedOf v a) a) (exactWet s x a) (446 + 600 * k) 1
   unfolding wetOf warmOf exactWet
   wet-within =
-      within-weaken (within-round (within-scale g-within 32315 (okA .t-high)) (near-half (moistOf (cubicOf s (reducedOf v a)) a *ℤ pos (a .t)) (s .t0) (omega (arith, okS .t0-low))))
-      (446 + 600 * k) 1 (omega (arith, okS .t0-low)) (c-bound k (s .t0) (okS .t0-low))
+      within-near (within-scale g-within 32315 (okA .t-high)) (omega (arith, okS .t0-low)) (omega arith) (c-bound k (s .t0) (okS .t0-low))

@@ -4,11 +4,10 @@ use mathlib.Core.Path.{_≡_, subst}
 use Prim.Native.Nat.{ℕ, _+_, _*_, _-_, _≤_, _<_}
 use native.Mathlib.Nat.{le-refl, mul-le-mul-right}
 use native.Mathlib.Omega.{arith}
-use lib.IntN.{ℤ, pos, natAbs, _+ℤ_, _-ℤ_, _*ℤ_}
+use lib.IntN.{ℤ, pos, natAbs, _+ℤ_, _-ℤ_}
 use lib.Signed.{_≤ℤ_, _<ℤ_}
 use Rattle.rounding.proofs.Difference.{is-nat, is-add, is-minus, is-scale, is-parts, is-le, is-lt, of-le, of-lt, of-abs-le, up, down}
-use Rattle.rounding.proofs.Nearest.{near-half}
-use Rattle.rounding.proofs.Approximation.{within-exactly, within-weaken, within-scale, within-round}
+use Rattle.rounding.proofs.Approximation.{within-exactly, within-scale, within-near}
 use Rattle.curve.specs.declared.Sheet.{Sheet}
 use Rattle.curve.specs.declared.Air.{Air}
 use Rattle.curve.specs.declared.Reading.the-variants.{Value}
@@ -33,7 +32,8 @@ module _ {c : ℤ} {bound : ℕ} {x : Fraction} (h : LiesWithin c bound x) where
   pub lies-weaken : (more : ℕ) → bound ≤ more → LiesWithin c more x
   lies-weaken more l = record { lower = h .lower; distance = omega (arith, h .distance, mul-le-mul-right (x .den) l) }
 
-  sides : (up c * x .den + down (x .num) ≤ down c * x .den + up (x .num) + bound * x .den) × (down c * x .den + up (x .num) ≤ up c * x .den + down (x .num) + bound * x .den)
+  sides : (up c * x .den + down (x .num) ≤ down c * x .den + up (x .num) + bound * x .den)
+      × (down c * x .den + up (x .num) ≤ up c * x .den + down (x .num) + bound * x .den)
   sides = of-abs-le (bound * x .den) (is-minus (is-scale (x .den) (is-parts c)) (is-parts (x .num))) (h .distance)
 
   at-least : {m : ℤ} → m ≤ℤ c → AtLeast x (m -ℤ pos bound)
@@ -79,8 +79,8 @@ module _ (s : Sheet) (okS : SheetOk s) (a : Air) (okA : AirOk a) where
   unfolding dryOf exactDry
   dry-distance {c} {x} h =
       approx-lies (dry-lower a okA x (h .lower))
-      (within-weaken (within-round (within-scale (lies-approx h) (a .p) (le-refl (a .p))) (near-half (c *ℤ pos (a .p)) (a .p - a .e) (omega (arith, okA .p-low, okA .e-high))))
-      dryBound 1 (omega (arith, okA .p-low, okA .e-high)) (numbers (a .p) (a .p - a .e) (omega (arith, okA .e-high))))
+      (within-near (within-scale (lies-approx h) (a .p) (le-refl (a .p))) (omega (arith, okA .p-low, okA .e-high)) (omega arith)
+      (numbers (a .p) (a .p - a .e) (omega (arith, okA .e-high))))
     where
       numbers : (p rest : ℕ) → 9 * p ≤ 10 * rest → (2 * (1646 * p) + rest * 1) * 1 ≤ dryBound * (2 * rest * 1)
       numbers p rest l = omega arith

@@ -21,15 +21,16 @@ use Rattle.reference.specs.Search.{least, serves, referenceRefusal, span
 use Rattle.reference.specs.Sought.{soughtReading}
 use Rattle.reference.specs.Bench.{smallSheet, StarredReferences}
 use Rattle.reference.proofs.Least.{either, least-none, least-at}
-use Rattle.reference.proofs.Serving.{none-above, none-below, sought-rises}
+use Rattle.reference.proofs.Serving.{Rising, none-above, none-below, sought-rises}
 
 -- readings that never fall, and the stretch of count numbers from n on
-module _ (g : ℕ → Reading) (rises : (v w : ℕ) → v ≤ w → NotAbove (g v) (g w)) (cylinder n count : ℕ) where
+module _ (g : ℕ → Reading) (rises : Rising g) (cylinder n count : ℕ) where
   abbrev test : ℕ → Bool
   test v = serves cylinder (g v)
 
   -- found where it serves and the number before reads too low
-  by-neighbours : (m : ℕ) {c : ℤ} → n ≤ suc m → suc m < n + count → g m ≡ Value c → leZ (pos cylinder) c ≡ false → test (suc m) ≡ true → least test n count ≡ At (suc m)
+  by-neighbours : (m : ℕ) {c : ℤ} → n ≤ suc m → suc m < n + count → g m ≡ Value c → leZ (pos cylinder) c ≡ false → test (suc m) ≡ true
+      → least test n count ≡ At (suc m)
   by-neighbours m l h e low on = least-at test n count (suc m) l h (λ j p q. none-below g rises cylinder m e low j (omega arith)) on
 
   -- none where the last number reads too low

@@ -68,6 +68,7 @@ span-range s raw q cylinder a span e = go (serves cylinder (readingUnder s raw q
     none : Nothing ≡ At span → ⊥
     none p = let z : _≡_ {A = ℕ} 0 1 = cc in omega arith
 
-    go : (t : Bool) → cond t Nothing (least (λ (n : ℕ). serves cylinder (readingUnder s raw q a n)) 500000 1500001) ≡ At span → (500000 ≤ span) × (span ≤ 2000000)
+    go : (t : Bool) → cond t Nothing (least (λ (n : ℕ). serves cylinder (readingUnder s raw q a n)) 500000 1500001) ≡ At span
+        → (500000 ≤ span) × (span ≤ 2000000)
     go true p = absurd (none p)
     go false p = let w = least-first (λ (n : ℕ). serves cylinder (readingUnder s raw q a n)) 500000 1500001 span p in (w .0 .low, omega (arith, w .1))

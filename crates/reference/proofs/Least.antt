@@ -67,7 +67,10 @@ module _ (f : ℕ → Bool) where
       go false e rest q =
           let w = rest q in
           let u = w .0 in
-          (record { here = u .here; low = omega arith; before = λ j a l. either n j (λ h. u .before j h l) (λ h. let m : n ≡ j = omega arith in subst (λ (x : ℕ). f x ≡ false) m e) }, omega (arith, w .1))
+          (record { here = u .here; low = omega arith; before = λ j a l. either n j (λ h. u .before j h l) (λ h. off j (omega arith)) }, omega (arith, w .1))
+        where
+          off : (j : ℕ) → n ≡ j → f j ≡ false
+          off j m = subst (λ (x : ℕ). f x ≡ false) m e
 
   -- where nothing is found the test holds nowhere
   pub least-nowhere : (n count : ℕ) → least f n count ≡ Nothing → (j : ℕ) → n ≤ j → j < n + count → f j ≡ false

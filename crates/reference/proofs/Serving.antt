@@ -27,6 +27,10 @@ use Rattle.reference.specs.Signal.{signalOf}
 use Rattle.reference.specs.Search.{serves, readingUnder}
 use Rattle.reference.specs.Sought.{SoughtOk, soughtReading}
 
+-- readings that never fall
+abbrev pub Rising : (ℕ → Reading) → Type 0
+Rising g = (v w : ℕ) → v ≤ w → NotAbove (g v) (g w)
+
 -- after a reading that is over range comes none that serves
 over-below : {q r : Reading} (cylinder : ℕ) → NotAbove q r → q ≡ OverRange → serves cylinder r ≡ false
 over-below cylinder from-below e = absurd (no e)
@@ -46,7 +50,7 @@ low-above cylinder {c} (values {c = b} {d} h) e l =
     false-le (pos cylinder) b (≤ℤ-<ℤ-trans h (subst (λ (x : ℤ). x <ℤ pos cylinder) (sym (value-same e)) (le-false (pos cylinder) c l)))
 low-above cylinder {c} to-over e l = absurd (not-value OverRange c e refl)
 
-module _ (g : ℕ → Reading) (rises : (v w : ℕ) → v ≤ w → NotAbove (g v) (g w)) (cylinder : ℕ) where
+module _ (g : ℕ → Reading) (rises : Rising g) (cylinder : ℕ) where
   -- above a signal over range none serves
   pub none-above : (m : ℕ) → g m ≡ OverRange → (j : ℕ) → m ≤ j → serves cylinder (g j) ≡ false
   none-above m e j l = over-below cylinder (rises m j l) e
@@ -72,12 +76,13 @@ unfolding signalOf
 signal-from-0 raw q v h = near-nonnegative 1000000 (omega arith) (nonnegative-scale v (≤ℤ-trans (nonnegative 1) h))
 
 module _ (s : Sheet) (a : Air) where
-  pub sought-rises : SheetOk s → AirOk a → (u : Sought) (n : ℕ) → SoughtOk u n → (v w : ℕ) → v ≤ w → NotAbove (soughtReading s a u v) (soughtReading s a u w)
+  pub sought-rises : SheetOk s → AirOk a → (u : Sought) (n : ℕ) → SoughtOk u n → Rising (soughtReading s a u)
   sought-rises okS okA Signal n h v w l = absolute-mono s a okS okA (pos-mono l)
   sought-rises okS okA (Span raw q) n h v w l = absolute-mono s a okS okA (signal-rises raw q (h .2) l)
 
   -- a reading that is no value is over range
-  pub sought-over : (u : Sought) (n : ℕ) → SoughtOk u n → (v : ℕ) {r : Reading} → r ≡ soughtReading s a u v → OneOf (1 ∷ 2 ∷ []) (tagOf the-type r) → soughtReading s a u v ≡ OverRange
+  pub sought-over : (u : Sought) (n : ℕ) → SoughtOk u n → (v : ℕ) {r : Reading} → r ≡ soughtReading s a u v → OneOf (1 ∷ 2 ∷ []) (tagOf the-type r)
+      → soughtReading s a u v ≡ OverRange
   sought-over Signal n h v e t = over-range s (pos v) a (nonnegative v) e t
   sought-over (Span raw q) n h v e t = over-range s (signalOf raw q v) a (signal-from-0 raw q v (h .2)) e t
 

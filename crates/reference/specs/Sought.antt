@@ -1,7 +1,7 @@
 -- The one search of the code, for both its uses: the numbers that it runs over, and the reading of each. The contracts of the two public
 -- searches do not need it: they cite `Search.antt` alone. Assumes nothing.
 use Prim.Native.Nat.{ℕ, _≤_}
-use lib.IntN.{ℤ, pos, natAbs, _-ℤ_}
+use lib.IntN.{pos, natAbs, _-ℤ_}
 use lib.Signed.{_≤ℤ_}
 use Rattle.curve.specs.declared.Sheet.{Sheet}
 use Rattle.curve.specs.declared.Air.{Air}

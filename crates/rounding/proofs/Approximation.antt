@@ -3,12 +3,13 @@
 -- Assumes nothing.
 use mathlib.Core.Path.{_≡_, ap}
 use Prim.Native.Nat.{ℕ, _+_, _*_, _≤_, _<_}
-use native.Mathlib.Nat.{mul-le-mul-left, mul-le-mul-right, le-of-mul-le-mul-left}
+use native.Mathlib.Nat.{mul-pos, mul-le-mul-left, mul-le-mul-right, le-of-mul-le-mul-left}
 use native.Mathlib.Omega.{arith}
 use lib.IntN.{ℤ, pos, negℤ, natAbs, _+ℤ_, _-ℤ_, _*ℤ_}
+use Rattle.rounding.specs.Near.{nearest}
 use Rattle.rounding.proofs.Difference.{is-eq, is-nat, is-add, is-minus, is-mul, is-scale, is-parts, abs-le}
 use Rattle.rounding.proofs.Integers.{abs-neg, abs-add, abs-mul}
-use Rattle.rounding.proofs.Nearest.{Half}
+use Rattle.rounding.proofs.Nearest.{Half, near-half}
 
 pub record Within (c num : ℤ) (den E S : ℕ) : Type 0 where
   pub within : natAbs (c *ℤ pos den -ℤ num) * S ≤ E * den
@@ -46,7 +47,8 @@ module _ {c n : ℤ} {d E S : ℕ} (w : Within c n d E S) where
           is-eq (is-scale d (is-minus (is-scale f C) M)) (is-minus (is-scale (f * d) C) (is-scale d M)) (omega arith) in
           let r : (c *ℤ pos d -ℤ n) *ℤ pos f ≡ c *ℤ pos (f * d) -ℤ n *ℤ pos f =
           is-eq (is-scale f (is-minus (is-scale d C) N)) (is-minus (is-scale (f * d) C) (is-scale f N)) (omega arith) in
-          omega (arith, abs-mul (c *ℤ pos f -ℤ m) (pos d), abs-mul (c *ℤ pos d -ℤ n) (pos f), ap natAbs q, ap natAbs r, ap (λ (x : ℤ). natAbs (c *ℤ pos (f * d) -ℤ x)) e)
+          let s = ap (λ (x : ℤ). natAbs (c *ℤ pos (f * d) -ℤ x)) e in
+          omega (arith, abs-mul (c *ℤ pos f -ℤ m) (pos d), abs-mul (c *ℤ pos d -ℤ n) (pos f), ap natAbs q, ap natAbs r)
 
       core : (y u : ℕ) → y * d ≡ u * f → u * S ≤ E * d → d * (y * S) ≤ d * (E * f)
       core y u q k = omega (arith, mul-le-mul-right f k, ap (λ (x : ℕ). x * S) q)
@@ -103,6 +105,11 @@ module _ {c n : ℤ} {d E S : ℕ} (w : Within c n d E S) where
       core : (b y q u : ℕ) → y * 2 ≤ q * d + u * 2 → q ≤ b → u * S ≤ E * d → y * (2 * b * S) ≤ (2 * E + b * S) * (d * b)
       core b y q u t k l = omega (arith, mul-le-mul-right (b * S) t, mul-le-mul-right (d * b * S) k, mul-le-mul-right (2 * b) l)
 
+-- a rounded step: what is E / S off is at most F / R off once it is divided by b and rounded, where the numbers say so
+pub within-near : {c n : ℤ} {d E S F R : ℕ} → Within c n d E S → {b : ℕ} → 0 < b → 0 < S → (2 * E + b * S) * R ≤ F * (2 * b * S)
+    → Within (nearest c b) n (d * b) F R
+within-near {c} {F} {R} w {b} h s l = within-weaken (within-round w (near-half c b h)) F R (mul-pos (omega arith) s) l
+
 -- ---- two values
 module _ {a b n k : ℤ} {d f E F S : ℕ} (w : Within a n d E S) (x : Within b k f F S) where
   parts : (y : ℕ) → y * 1 ≤ natAbs (a *ℤ pos d -ℤ n) * f + natAbs (b *ℤ pos f -ℤ k) * d → y * S ≤ (E + F) * (d * f)
@@ -137,7 +144,8 @@ module _ {a b n k : ℤ} {d f E F S : ℕ} (w : Within a n d E S) (x : Within b 
       let t = triangle 1 y (u *ℤ (b *ℤ pos f)) (n *ℤ v)
       (is-eq (is-scale 1 (is-minus (is-scale (d * f) (is-mul A B)) (is-mul N K)))
       (is-add (is-mul (is-minus (is-scale d A) N) (is-scale f B)) (is-mul N (is-minus (is-scale f B) K))) (omega arith)) in
-      record { within = core (natAbs y) (natAbs b) (natAbs n) (natAbs u) (natAbs v) (rw (abs-mul u (b *ℤ pos f), abs-mul b (pos f), abs-mul n v) at t) h l (w .within) (x .within) }
+      let sum = rw (abs-mul u (b *ℤ pos f), abs-mul b (pos f), abs-mul n v) at t in
+      record { within = core (natAbs y) (natAbs b) (natAbs n) (natAbs u) (natAbs v) sum h l (w .within) (x .within) }
     where
       core : (y b n u v : ℕ) → y * 1 ≤ u * (b * f) + n * v → b ≤ H → n ≤ X * d → u * S ≤ E * d → v * S ≤ F * f → y * S ≤ (H * E + X * F) * (d * f)
       core y b n u v t p q g h =

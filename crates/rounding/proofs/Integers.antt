@@ -2,7 +2,7 @@
 use mathlib.Core.Path.{_≡_, refl, subst}
 use Prim.Native.Nat.{ℕ, zero, suc, _+_, _*_, _≤_}
 use native.Mathlib.Omega.{arith}
-use native.Mathlib.Nat.{mul-le-mul}
+use native.Mathlib.Nat.{le-refl, mul-le-mul}
 use lib.IntN.{ℤ, pos, negsuc, negℤ, _+ℤ_, _-ℤ_, _*ℤ_, natAbs, zero-*ℤ}
 use lib.Signed.{_≤ℤ_, _<ℤ_, ≤ℤ-refl}
 use Rattle.rounding.proofs.Difference.{is-eq, is-nat, is-add, is-minus, is-mul, is-parts, abs-le, of-abs-le, is-le, of-le, is-lt, of-lt, up, down}
@@ -37,10 +37,7 @@ pub +ℤ-mono : {a b c d : ℤ} → a ≤ℤ b → c ≤ℤ d → (a +ℤ c) ≤
 pub scale-mono : {a b : ℤ} (n : ℕ) → a ≤ℤ b → (a *ℤ pos n) ≤ℤ (b *ℤ pos n)
 scale-mono {a} {b} n h =
     let A = is-parts a in let B = is-parts b in
-    is-le (is-mul A (is-nat n)) (is-mul B (is-nat n)) (omega (arith, mul-le-mul (of-le A B h) (le n)))
-  where
-    le : (n : ℕ) → n ≤ n
-    le n = omega arith
+    is-le (is-mul A (is-nat n)) (is-mul B (is-nat n)) (omega (arith, mul-le-mul (of-le A B h) (le-refl n)))
 
 -- products of numbers not below 0
 pub *ℤ-mono : {a b c d : ℤ} → pos 0 ≤ℤ a → pos 0 ≤ℤ c → a ≤ℤ b → c ≤ℤ d → (a *ℤ c) ≤ℤ (b *ℤ d)

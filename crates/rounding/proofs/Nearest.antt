@@ -3,14 +3,15 @@
 -- unfold it, to compute a figure (`Bench.antt` of curve, reference and engine). Assumes nothing.
 use mathlib.Core.Path.{_≡_, refl, subst}
 use mathlib.Core.Bool.{true, false}
-use Prim.Native.Nat.{ℕ, zero, suc, _+_, _*_, _-_, _/_, _≤_, _<_}
+use Prim.Native.Nat.{ℕ, suc, _+_, _*_, _-_, _/_, _≤_, _<_}
 use native.Mathlib.Nat.{mul-div-le, lt-div-mul-add, lt-of-mul-lt-mul-left}
 use native.Mathlib.Omega.{arith}
 use lib.Dec.{T}
 use lib.IntN.{ℤ, pos, negsuc, negℤ, natAbs, _+ℤ_, _-ℤ_, _*ℤ_}
-use lib.Signed.{ltZ, _≤ℤ_, _<ℤ_}
+use lib.Signed.{ltZ, _≤ℤ_}
 use Rattle.rounding.specs.Near.{floor, nearest}
-use Rattle.rounding.proofs.Difference.{Is, is-nat, is-add, is-minus, is-mul, is-neg, is-scale, is-parts, is-eq, is-le, of-le, of-lt, up, down, abs-le, of-abs-le}
+use Rattle.rounding.proofs.Difference.{Is, is-nat, is-add, is-minus, is-mul, is-neg, is-scale, is-parts, is-eq, is-le, of-le, up, down}
+use Rattle.rounding.proofs.Difference.{abs-le, of-abs-le}
 use Rattle.rounding.proofs.Machine.{not-below-0}
 
 -- ---- where it lies
@@ -40,7 +41,8 @@ near-half a b h =
     record { half = abs-le b (is-mul (is-nat 2) (is-minus (is-scale b (is-parts (nearest a b))) (is-parts a))) (omega arith) (omega arith) }
 
 -- two sides of the half step, over the naturals
-pub half-sides : {r a : ℤ} {b x y p n : ℕ} → Half r a b → Is r x y → Is a p n → (2 * (x * b) + 2 * n ≤ 2 * (y * b) + 2 * p + b) × (2 * (y * b) + 2 * p ≤ 2 * (x * b) + 2 * n + b)
+pub half-sides : {r a : ℤ} {b x y p n : ℕ} → Half r a b → Is r x y → Is a p n
+    → (2 * (x * b) + 2 * n ≤ 2 * (y * b) + 2 * p + b) × (2 * (y * b) + 2 * p ≤ 2 * (x * b) + 2 * n + b)
 half-sides {b} w R A =
     let l = of-abs-le b (is-mul (is-nat 2) (is-minus (is-scale b R) A)) (w .half) in
     omega arith
@@ -53,13 +55,6 @@ pub near-mono : {a c : ℤ} (b : ℕ) → 0 < b → a ≤ℤ c → nearest a b �
 near-mono {a} {c} b h k =
     let l = bounds a b h in let m = bounds c b h in let o = of-le (is-parts a) (is-parts c) k in
     is-le (is-parts (nearest a b)) (is-parts (nearest c b)) (less (2 * b) (omega arith))
-
--- two numerators less than b apart give neighbours at most
-pub near-close : (a c : ℤ) (b : ℕ) → 0 < b → c <ℤ (a +ℤ pos b) → nearest c b ≤ℤ (nearest a b +ℤ pos 1)
-near-close a c b h k =
-    let l = half-sides (near-half a b h) (is-parts (nearest a b)) (is-parts a) in let m = half-sides (near-half c b h) (is-parts (nearest c b)) (is-parts c) in
-    let o = of-lt (is-parts c) (is-add (is-parts a) (is-nat b)) k in
-    is-le (is-parts (nearest c b)) (is-add (is-parts (nearest a b)) (is-nat 1)) (less (2 * b) (omega arith))
 
 -- two numerators at most m b apart give numbers at most m + 1 apart
 pub near-slope : (a c : ℤ) (b m : ℕ) → 0 < b → natAbs (a -ℤ c) ≤ m * b → natAbs (nearest a b -ℤ nearest c b) ≤ m + 1

@@ -1,9 +1,10 @@
--- What a test of order on integers says, held or failed, and how a fact settles it. Assumes nothing.
-use mathlib.Core.Path.{_≡_, refl, sym, subst}
+-- What a test of order on integers says, held or failed, and how a fact settles it; and a test that a call answered. Assumes nothing.
+use mathlib.Core.Path.{_≡_, refl, sym, subst, _∙_}
 use mathlib.Core.Bool.{Bool, true, false, not}
-use Prim.Native.Nat.{ℕ, _≤_, _<_}
+use Prim.Native.Nat.{ℕ, _≤_}
 use native.Mathlib.Omega.{arith}
 use lib.Dec.{T}
+use borrow.Author.Tests.{not-true, not-false}
 use lib.IntN.{ℤ, pos, natAbs}
 use lib.Signed.{ltZ, leZ, _≤ℤ_, _<ℤ_, leZ-yes, ltZ-yes, ltZ-no, clashℤ}
 use Rattle.rounding.proofs.Difference.{is-nat, is-parts, of-le, abs-le}
@@ -57,6 +58,13 @@ false-le a b h = go (leZ a b) refl
     go : (t : Bool) → leZ a b ≡ t → t ≡ false
     go true e = clashℤ h (le-true a b e)
     go false e = refl
+
+-- a test that a call answered, where its negation was asked: it failed, or it held
+pub answered-no : {answer test : Bool} → answer ≡ test → not answer ≡ true → test ≡ false
+answered-no {answer} e h = sym e ∙ not-true answer h
+
+pub answered-yes : {answer test : Bool} → answer ≡ test → not answer ≡ false → test ≡ true
+answered-yes {answer} e h = sym e ∙ not-false answer h
 
 -- from 0 to n
 pub size-of : {z : ℤ} {n : ℕ} → pos 0 ≤ℤ z → z ≤ℤ pos n → natAbs z ≤ n

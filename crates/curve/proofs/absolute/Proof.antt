@@ -17,6 +17,16 @@ use Rattle.curve.proofs.Order.{reduced-nonnegative}
 use Rattle.curve.proofs.absolute.Statement.{statement}
 use Rattle.curve.proofs.absolute.Tie as tie
 
+-- the entry, from the test against K, from z and from c
+abbrev of-k : tie.After-at-least → tie.Start
+of-k c = c .before .before .before .before .before
+
+abbrev of-z : tie.After-reduced → tie.Start
+of-z c = of-k (c .before .before)
+
+abbrev of-c : tie.After-wet → tie.Start
+of-c c = of-z (c .before .before .before)
+
 below-zero-requires : tie.Need-below-zero-requires
 below-zero-requires c κs = search needs
 
@@ -41,8 +51,8 @@ returns-2 c = rw (below (c .before .before .before) ∙ c .before .before .if1 .
 at-least-requires : tie.Need-at-least-requires
 at-least-requires c κs = omega (arith, c .before .before .before .before .pre .0 .k-high)
 
-at-k : (c : tie.After-at-least) → leZ (pos (c .before .before .before .before .before .args .s .k)) (c .before .before .before .before .before .args .v) ≡ c .at-least .result
-at-k c = let fv = c .before .before .before .before .before .fits .v in sym (simp toZ-ofZ at (c .at-least .ensures))
+at-k : (c : tie.After-at-least) → leZ (pos (of-k c .args .s .k)) (of-k c .args .v) ≡ c .at-least .result
+at-k c = let fv = of-k c .fits .v in sym (simp toZ-ofZ at (c .at-least .ensures))
 
 returns-3 : tie.Need-returns-3
 unfolding absoluteOf
@@ -60,26 +70,26 @@ reduced-requires c κs =
     let top = lt-false (pos 150000000) v (high (d .before) ∙ d .if2 .left) in
     simp toZ-ofZ (size-of low top, s .pre .1)
 
-z-is : (c : tie.After-reduced) → c .reduced .result ≡ reducedOf (c .before .before .before .before .before .before .before .args .v) (c .before .before .before .before .before .before .before .args .a)
-z-is c = let fv = c .before .before .before .before .before .before .before .fits .v in simp toZ-ofZ at (c .reduced .ensures)
+z-is : (c : tie.After-reduced) → c .reduced .result ≡ reducedOf (of-z c .args .v) (of-z c .args .a)
+z-is c = let fv = of-z c .fits .v in simp toZ-ofZ at (c .reduced .ensures)
 
 above-requires-2 : tie.Need-above-requires-2
 above-requires-2 c κs = search needs
 
-z-high : (c : tie.After-above2) → ltZ (pos 100000000) (reducedOf (c .before .before .before .before .before .before .before .before .args .v) (c .before .before .before .before .before .before .before .before .args .a)) ≡ c .above2 .result
+z-high : (c : tie.After-above2) → let s = of-z (c .before) in ltZ (pos 100000000) (reducedOf (s .args .v) (s .args .a)) ≡ c .above2 .result
 z-high c =
     let fz : SFits w64 (c .before .reduced .result) = search needs in
     sym (rw (z-is (c .before)) at (simp toZ-ofZ at (c .above2 .ensures)))
 
--- the four tests that are passed where z is known
+-- the tests that are passed where z is known
 module _ (c : tie.After-above2) where
-  below-at : ltZ (c .before .before .before .before .before .before .before .before .args .v) (pos 0) ≡ false
+  below-at : ltZ (of-z (c .before) .args .v) (pos 0) ≡ false
   below-at = let d = c .before .before .before .before in below (d .before .before .before) ∙ d .before .before .if1 .left
 
-  high-at : ltZ (pos 150000000) (c .before .before .before .before .before .before .before .before .args .v) ≡ false
+  high-at : ltZ (pos 150000000) (of-z (c .before) .args .v) ≡ false
   high-at = let d = c .before .before .before .before in high (d .before) ∙ d .if2 .left
 
-  at-k-at : leZ (pos (c .before .before .before .before .before .before .before .before .args .s .k)) (c .before .before .before .before .before .before .before .before .args .v) ≡ false
+  at-k-at : leZ (pos (of-z (c .before) .args .s .k)) (of-z (c .before) .args .v) ≡ false
   at-k-at = at-k (c .before .before .before) ∙ c .before .before .if3 .left
 
 returns-4 : tie.Need-returns-4
@@ -89,13 +99,13 @@ returns-4 c = let d = c .before in rw (below-at d, high-at d, at-k-at d, z-high 
 wet-requires : tie.Need-wet-requires
 wet-requires c κs =
     let d = c .before in
-    let s = d .before .before .before .before .before .before .before .before in
+    let s = of-z (d .before) in
     let fz : SFits w64 (d .before .reduced .result) = search needs in
     let low = reduced-nonnegative (s .args .a) (s .pre .1) (lt-false (s .args .v) (pos 0) (below-at d)) in
     let top = lt-false (pos 100000000) (reducedOf (s .args .v) (s .args .a)) (z-high d ∙ c .if4 .left) in
     simp toZ-ofZ (s .pre .0, rw (z-is (d .before)) (size-of low top), s .pre .1)
 
-c-is : (c : tie.After-wet) → c .wet .result ≡ wetOf (c .before .before .before .before .before .before .before .before .before .before .args .s) (reducedOf (c .before .before .before .before .before .before .before .before .before .before .args .v) (c .before .before .before .before .before .before .before .before .before .before .args .a)) (c .before .before .before .before .before .before .before .before .before .before .args .a)
+c-is : (c : tie.After-wet) → let p = of-c c .args in c .wet .result ≡ wetOf (p .s) (reducedOf (p .v) (p .a)) (p .a)
 c-is c =
     let fz : SFits w64 (c .before .before .before .reduced .result) = search needs in
     rw (z-is (c .before .before .before)) at (simp toZ-ofZ at (c .wet .ensures))
@@ -117,22 +127,10 @@ unfolding absoluteOf
 returns-6 c =
     let d = c .before .before .before .before in
     let fc : SFits w64 (c .before .before .wet .result) = search needs in
-    rw (below-at d, high-at d, at-k-at d, z-high d ∙ c .before .before .before .if4 .left, ← c-is (c .before .before), c-high (c .before) ∙ c .if5 .left) (ap Value (toZ-ofZ fc))
+    rw (below-at d, high-at d, at-k-at d, z-high d ∙ c .before .before .before .if4 .left, ← c-is (c .before .before), c-high (c .before) ∙ c .if5 .left)
+    (ap Value (toZ-ofZ fc))
 
 pub absolute-spec : {M : Type 1} → statement M
 absolute-spec =
-    tie.close
-    (tie.spec
-    below-zero-requires
-    returns
-    above-requires
-    returns-2
-    at-least-requires
-    returns-3
-    reduced-requires
-    above-requires-2
-    returns-4
-    wet-requires
-    above-requires-3
-    returns-5
-    returns-6)
+    tie.close (tie.spec below-zero-requires returns above-requires returns-2 at-least-requires returns-3 reduced-requires above-requires-2
+    returns-4 wet-requires above-requires-3 returns-5 returns-6)

@@ -13,11 +13,12 @@ use lib.Signed.{leZ}
 use mir.Facts.{toZ-ofZ}
 use mir.Syntax.{w64}
 use mir.Val.{SFits}
+use Rattle.curve.specs.declared.Reading.{Reading}
 use Rattle.curve.specs.declared.Reading.the-variants.{Value}
 use Rattle.reference.specs.Search.{serves}
-use Rattle.reference.specs.Sought.{soughtReading}
+use Rattle.reference.specs.Sought.{SoughtOk, soughtReading}
 use Rattle.reference.proofs.Least.{least-none, lower-half, upper-half, found-below, found-here}
-use Rattle.reference.proofs.Serving.{none-above, none-below, sought-rises, sought-over, sought-less}
+use Rattle.reference.proofs.Serving.{Rising, none-above, none-below, sought-rises, sought-over, sought-less}
 use Rattle.reference.proofs.search.Reads as self
 use Rattle.reference.proofs.search.Kinds as kinds
 use Rattle.reference.proofs.+search.Lts-search as lts
@@ -46,12 +47,22 @@ module _ (t : ℕ) where
   abbrev Entry : Type 0
   Entry = lts.Start (claims t) (here t) self.Post
 
-  -- the middle of the stretch, and the test
+  -- the middle of the stretch, the readings and the test
   abbrev middle : Entry → ℕ
   middle s = s .args .low + (s .args .high - s .args .low) / 2
 
+  abbrev readings : Entry → ℕ → Reading
+  readings s = soughtReading (s .args .s) (s .args .a) (s .args .sought)
+
   abbrev test : Entry → ℕ → Bool
-  test s n = serves (s .args .cylinder) (soughtReading (s .args .s) (s .args .a) (s .args .sought) n)
+  test s n = serves (s .args .cylinder) (readings s n)
+
+  -- every number of the stretch may be sought, and a higher one never reads lower
+  less : (s : Entry) (n : ℕ) → n ≤ s .args .high - 1 → SoughtOk (s .args .sought) n
+  less s n h = sought-less (s .args .sought) (s .args .high - 1) n (s .pre .1 .3) h
+
+  rises : (s : Entry) → Rising (readings s)
+  rises s = sought-rises (s .args .s) (s .args .a) (s .pre .1 .0) (s .pre .1 .1) (s .args .sought) (s .args .high - 1) (s .pre .1 .3)
 
   returns : lts.Need-returns (claims t) (here t) self.Post
   returns c = sym (least-none (test (c .before)) (c .before .args .low) (c .before .args .high - c .before .args .low) (λ j p q. absurd (no j p q)))
@@ -66,21 +77,22 @@ module _ (t : ℕ) where
   add-middle c = search needs
 
   reading-at-requires : lts.Need-reading-at-requires (claims t) (here t) self.Post
-  reading-at-requires c κs = let s = c .before in (s .pre .1 .0, s .pre .1 .1, sought-less (s .args .sought) (s .args .high - 1) (middle s) (s .pre .1 .3) (omega arith))
+  reading-at-requires c κs = let s = c .before in (s .pre .1 .0, s .pre .1 .1, less s (middle s) (omega arith))
 
   enum-known-c : lts.Need-enum-known-c (claims t) (here t) self.Post
   enum-known-c c = search needs
 
   search-requires : lts.Need-search-requires (claims t) (here t) self.Post
-  search-requires c κs = let s = c .before .before .before in (omega arith, (s .pre .1 .0, s .pre .1 .1, s .pre .1 .2, sought-less (s .args .sought) (s .args .high - 1) (middle s - 1) (s .pre .1 .3) (omega arith), omega arith))
+  search-requires c κs =
+      let s = c .before .before .before in let p = s .pre .1 in
+      (omega arith, (p .0, p .1, p .2, less s (middle s - 1) (omega arith), omega arith))
 
   returns-2 : lts.Need-returns-2 (claims t) (here t) self.Post
   returns-2 c =
       let s = c .before .before .before .before in
-      let p = s .pre .1 in
       rw (c .search .ensures) (lower-half (test s) (s .args .low) (middle s) (s .args .high) (omega arith) (omega arith)
-      (none-above (soughtReading (s .args .s) (s .args .a) (s .args .sought)) (sought-rises (s .args .s) (s .args .a) (p .0) (p .1) (s .args .sought) (s .args .high - 1) (p .3)) (s .args .cylinder) (middle s)
-      (sought-over (s .args .s) (s .args .a) (s .args .sought) (s .args .high - 1) (p .3) (middle s) (c .before .before .reading-at .ensures) (c .before .match .keys2))))
+      (none-above (readings s) (rises s) (s .args .cylinder) (middle s) (sought-over (s .args .s) (s .args .a) (s .args .sought) (s .args .high - 1)
+      (s .pre .1 .3) (middle s) (c .before .before .reading-at .ensures) (c .before .match .keys2))))
 
   at-least-requires : lts.Need-at-least-requires (claims t) (here t) self.Post
   at-least-requires c κs = search needs
@@ -97,25 +109,26 @@ module _ (t : ℕ) where
       let f : SFits w64 (c .before .before .c .given .0 .0) = search needs in
       sym (simp toZ-ofZ at (c .at-least .ensures))
 
-  value : (c : Compared) → soughtReading (entry c .args .s) (entry c .args .a) (entry c .args .sought) (middle (entry c)) ≡ Value (c .before .before .c .given .0 .0)
+  value : (c : Compared) → readings (entry c) (middle (entry c)) ≡ Value (c .before .before .c .given .0 .0)
   value c = sym (c .before .before .before .before .reading-at .ensures) ∙ c .before .before .c .given .1
 
   add-search : lts.Need-add-search (claims t) (here t) self.Post
   add-search c = search needs
 
   search-requires-2 : lts.Need-search-requires-2 (claims t) (here t) self.Post
-  search-requires-2 c κs = let s = c .before .before .before .before .before .before .before in (omega arith, (s .pre .1 .0, s .pre .1 .1, s .pre .1 .2, s .pre .1 .3, omega arith))
+  search-requires-2 c κs = let p = entry (c .before) .pre .1 in (omega arith, (p .0, p .1, p .2, p .3, omega arith))
 
   returns-3 : lts.Need-returns-3 (claims t) (here t) self.Post
   returns-3 c =
       let d = c .before .before in
       let s = entry d in
-      let p = s .pre .1 in
       rw (c .search2 .ensures) (upper-half (test s) (s .args .low) (middle s) (s .args .high) (omega arith) (omega arith)
-      (none-below (soughtReading (s .args .s) (s .args .a) (s .args .sought)) (sought-rises (s .args .s) (s .args .a) (p .0) (p .1) (s .args .sought) (s .args .high - 1) (p .3)) (s .args .cylinder) (middle s) (value d) (compared d ∙ not-true _ (c .before .if2 .taken))))
+      (none-below (readings s) (rises s) (s .args .cylinder) (middle s) (value d) (compared d ∙ not-true _ (c .before .if2 .taken))))
 
   search-requires-3 : lts.Need-search-requires-3 (claims t) (here t) self.Post
-  search-requires-3 c κs = let s = c .before .before .before .before .before .before .before in (omega arith, (s .pre .1 .0, s .pre .1 .1, s .pre .1 .2, sought-less (s .args .sought) (s .args .high - 1) (middle s - 1) (s .pre .1 .3) (omega arith), omega arith))
+  search-requires-3 c κs =
+      let s = entry (c .before) in let p = s .pre .1 in
+      (omega arith, (p .0, p .1, p .2, less s (middle s - 1) (omega arith), omega arith))
 
   enum-known-n : lts.Need-enum-known-n (claims t) (here t) self.Post
   enum-known-n c = search needs
@@ -127,15 +140,19 @@ module _ (t : ℕ) where
   returns-4 c =
       let d = c .before .before .before .before in
       let s = entry d in
-      found-here (test s) (s .args .low) (middle s) (s .args .high) (omega arith) (omega arith) (rw (c .before .before .search3 .ensures) at (c .enum-told .given .1))
+      found-here (test s) (s .args .low) (middle s) (s .args .high) (omega arith) (omega arith)
+      (rw (c .before .before .search3 .ensures) at (c .enum-told .given .1))
       (ap (serves (s .args .cylinder)) (value d) ∙ compared d ∙ not-false _ (c .before .before .before .if2 .left))
 
   returns-5 : lts.Need-returns-5 (claims t) (here t) self.Post
   returns-5 c =
       let s = entry (c .before .before .before .before .before) in
-      found-below (test s) (s .args .low) (middle s) (s .args .high) (omega arith) (omega arith) (rw (c .before .before .before .search3 .ensures) at (c .before .n .given .1))
+      found-below (test s) (s .args .low) (middle s) (s .args .high) (omega arith) (omega arith)
+      (rw (c .before .before .before .search3 .ensures) at (c .before .n .given .1))
 
 pub +search-spec : {M : Type 1} → statement M
 +search-spec =
     close width λ t.
-    lts.spec (claims t) (here t) self.Post (returns t) (sub-middle t) (add-middle t) (reading-at-requires t) (enum-known-c t) (search-requires t) (returns-2 t) (at-least-requires t) (add-search t) (search-requires-2 t) (returns-3 t) (search-requires-3 t) (enum-known-n t) (enum-told t) (returns-4 t) (returns-5 t)
+    lts.spec (claims t) (here t) self.Post (returns t) (sub-middle t) (add-middle t) (reading-at-requires t) (enum-known-c t) (search-requires t)
+    (returns-2 t) (at-least-requires t) (add-search t) (search-requires-2 t) (returns-3 t) (search-requires-3 t) (enum-known-n t) (enum-told t)
+    (returns-4 t) (returns-5 t)

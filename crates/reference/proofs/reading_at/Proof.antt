@@ -55,13 +55,5 @@ returns-2 c =
 
 pub reading-at-spec : {M : Type 1} → statement M
 reading-at-spec =
-    tie.close
-    (tie.spec
-    enum-told
-    positive-requires
-    absolute-requires
-    enum-known-sought
-    from-raw-requires
-    absolute-requires-2
-    returns
+    tie.close (tie.spec enum-told positive-requires absolute-requires enum-known-sought from-raw-requires absolute-requires-2 returns
     returns-2)

@@ -41,7 +41,9 @@ returns : tie.Need-returns
 unfolding spanOf
 returns c =
     let s = c .before .before .before in
-    let never = never-serves (s .args .s) (s .args .a) (s .pre .0) (s .pre .1) (s .args .raw) (s .args .q) (s .args .cylinder) (s .pre .4) (compared (c .before) ∙ not-true _ (c .if1 .taken)) in
+    let p = s .args in
+    let low = compared (c .before) ∙ not-true _ (c .if1 .taken) in
+    let never = never-serves (p .s) (p .a) (s .pre .0) (s .pre .1) (p .raw) (p .q) (p .cylinder) (s .pre .4) low in
     rw (never 499999) (sym (least-none (test s) 500000 1500001 (λ j p q. never j)))
 
 above-zero : (c : tie.Else1) → pos 1 ≤ℤ (c .before .before .before .args .raw -ℤ c .before .before .before .args .q)
@@ -99,14 +101,5 @@ returns-3 c =
 
 pub span-setting-spec : {M : Type 1} → statement M
 span-setting-spec =
-    tie.close
-    (tie.spec
-    difference-requires
-    at-least-requires
-    returns
-    search-requires
-    enum-told
-    enum-told-2
-    returns-2
-    search-requires-2
+    tie.close (tie.spec difference-requires at-least-requires returns search-requires enum-told enum-told-2 returns-2 search-requires-2
     returns-3)

@@ -33,7 +33,8 @@ small m half b h k = omega (arith, div-le-self (2 * m + half) (2 * b))
 negative-requires : tie.Need-negative-requires
 negative-requires c κs =
     let s = c .before .before .before in
-    rw (c .quotient .ensures) (small (c .before .before .magnitude .result) (s .args .b - 1) (s .args .b) (omega (arith, m-is (c .before .before))) (omega arith))
+    let h = m-is (c .before .before) in
+    rw (c .quotient .ensures) (small (c .before .before .magnitude .result) (s .args .b - 1) (s .args .b) (omega arith) (omega arith))
 
 quotient-requires-2 : tie.Need-quotient-requires-2
 quotient-requires-2 c κs = omega (arith, m-is (c .before))
@@ -65,13 +66,5 @@ returns-2 c =
 
 pub near-spec : {M : Type 1} → statement M
 near-spec =
-    tie.close
-    (tie.spec
-    magnitude-requires
-    sub-quotient
-    quotient-requires
-    negative-requires
-    quotient-requires-2
-    positive-requires
-    returns
+    tie.close (tie.spec magnitude-requires sub-quotient quotient-requires negative-requires quotient-requires-2 positive-requires returns
     returns-2)

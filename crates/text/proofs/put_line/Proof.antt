@@ -7,9 +7,8 @@ use lib.ListN.{length, length-append}
 use mir.Syntax.{w64}
 use mir.Val.{toZ, ofZ}
 use borrow.Author.Needs.{needs}
-use Rattle.text.specs.Line.{lineRoom}
-use Rattle.text.specs.Line.{decimal, signedDecimal, lineOf}
-use Rattle.text.proofs.Digits.{line-fits}
+use Rattle.text.specs.Line.{decimal, signedDecimal, lineOf, lineRoom}
+use Rattle.text.proofs.Decimal.{line-fits}
 use Rattle.text.proofs.Pieces.{seven}
 use Rattle.text.proofs.put_line.Statement.{statement}
 use Rattle.text.proofs.put_line.Tie as tie
@@ -35,7 +34,7 @@ claims = (
 abbrev Entry : Type 0
 Entry = lts.Start claims self.Pre self.Post
 
--- the entry, from the calls that put ordinal, kind, refusal, m, x and y
+-- the entry, from the calls that put ordinal, kind, refusal, m and x
 abbrev of-ordinal : lts.After-put-decimal claims self.Pre self.Post → Entry
 of-ordinal c = c .before .before .before
 
@@ -51,8 +50,9 @@ of-m c = of-refusal (c .before .before .before .before .before)
 abbrev of-x : lts.After-put-spaced-signed claims self.Pre self.Post → Entry
 of-x c = of-m (c .before .before .before .before .before)
 
-abbrev of-y : lts.After-put-spaced-signed2 claims self.Pre self.Post → Entry
-of-y c = of-x (c .before .before .before .before .before)
+-- and from y's call the one of m
+abbrev m-of : lts.After-put-spaced-signed2 claims self.Pre self.Post → lts.After-put-spaced3 claims self.Pre self.Post
+m-of c = c .before .before .before .before .before .before .before .before .before .before
 
 -- x and y, which are of 64 bits
 kept-x : (s : Entry) → toZ w64 (ofZ w64 (s .args .a .x)) ≡ s .args .a .x
@@ -105,13 +105,13 @@ put-spaced-signed-requires : tie.Need-put-spaced-signed-requires
 put-spaced-signed-requires c κs = omega (arith, sum (of-m (c .before .before .before .before)))
 
 put-spaced-signed-requires-2 : tie.Need-put-spaced-signed-requires-2
-put-spaced-signed-requires-2 c κs = omega (arith, sum (of-x (c .before .before .before .before)), half (c .before .before .before .before .before .before .before .before .before))
+put-spaced-signed-requires-2 c κs = let x = c .before .before .before .before in omega (arith, sum (of-x x), half (x .before .before .before .before .before))
 
 put-byte-requires : tie.Need-put-byte-requires
-put-byte-requires c κs = omega (arith, sum (of-y (c .before .before .before)), half (c .before .before .before .before .before .before .before .before .before .before .before .before .before))
+put-byte-requires c κs = let y = c .before .before .before in omega (arith, sum (of-m (m-of y)), half (m-of y))
 
 same-length : tie.Need-same-length
-same-length c = omega (arith, half (c .before .before .before .before .before .before .before .before .before .before .before .before .before .before .before .before))
+same-length c = omega (arith, half (m-of (c .before .before .before .before .before .before)))
 
 returns : tie.Need-returns
 unfolding lineOf
@@ -133,17 +133,5 @@ returns c =
 
 pub put-line-spec : {M : Type 1} → statement M
 put-line-spec =
-    tie.close
-    (tie.spec
-    put-decimal-requires
-    cast-put-spaced
-    put-spaced-requires
-    cast-put-spaced-2
-    put-spaced-requires-2
-    cast-put-spaced-3
-    put-spaced-requires-3
-    put-spaced-signed-requires
-    put-spaced-signed-requires-2
-    put-byte-requires
-    same-length
-    returns)
+    tie.close (tie.spec put-decimal-requires cast-put-spaced put-spaced-requires cast-put-spaced-2 put-spaced-requires-2 cast-put-spaced-3
+    put-spaced-requires-3 put-spaced-signed-requires put-spaced-signed-requires-2 put-byte-requires same-length returns)

@@ -1,12 +1,12 @@
 -- `text::put_signed` meets its contract: below 0 a minus sign and the digits, else the digits. Assumes nothing.
 use native.Mathlib.Omega.{arith}
 use mathlib.Core.List.{[], _∷_}
-use mathlib.Core.Path.{ap}
+use mathlib.Core.Path.{_≡_, ap}
 use lib.ListN.{length}
 use mir.Facts.{toZ-ofZ}
 use borrow.Author.Needs.{needs}
-use Rattle.text.specs.Line.{decimal}
-use Rattle.text.proofs.Digits.{with-minus, as-it-is}
+use Rattle.text.specs.Line.{decimal, signedDecimal}
+use Rattle.text.proofs.Decimal.{with-minus, as-it-is}
 use Rattle.text.proofs.Pieces.{both}
 use Rattle.text.proofs.put_signed.Statement.{statement}
 use Rattle.text.proofs.put_signed.Tie as tie
@@ -17,26 +17,25 @@ magnitude-requires c κs = search needs
 below-zero-requires : tie.Need-below-zero-requires
 below-zero-requires c κs = search needs
 
-put-byte-requires : tie.Need-put-byte-requires
-put-byte-requires c κs =
-    let i = c .before in
+-- the text by its sign, on each side of the test
+minus : (i : tie.Then1) → let m = i .before .before in signedDecimal (m .before .before .args .x) ≡ 45 ∷ decimal (m .magnitude .result)
+minus i =
     let m = i .before .before in
-    let e = with-minus (toZ-ofZ (m .before .before .fits .x)) (m .magnitude .ensures) (i .before .below-zero .ensures) (i .if1 .taken) in
-    omega (arith, ap length e)
+    with-minus (toZ-ofZ (m .before .before .fits .x)) (m .magnitude .ensures) (i .before .below-zero .ensures) (i .if1 .taken)
+
+plain : (i : tie.Else1) → let m = i .before .before in signedDecimal (m .before .before .args .x) ≡ decimal (m .magnitude .result)
+plain i =
+    let m = i .before .before in
+    as-it-is (toZ-ofZ (m .before .before .fits .x)) (m .magnitude .ensures) (i .before .below-zero .ensures) (i .if1 .left)
+
+put-byte-requires : tie.Need-put-byte-requires
+put-byte-requires c κs = omega (arith, ap length (minus (c .before)))
 
 put-decimal-requires : tie.Need-put-decimal-requires
-put-decimal-requires c κs =
-    let i = c .before .before .before .before .before in
-    let m = i .before .before in
-    let e = with-minus (toZ-ofZ (m .before .before .fits .x)) (m .magnitude .ensures) (i .before .below-zero .ensures) (i .if1 .taken) in
-    omega (arith, ap length e)
+put-decimal-requires c κs = omega (arith, ap length (minus (c .before .before .before .before .before)))
 
 put-decimal-requires-2 : tie.Need-put-decimal-requires-2
-put-decimal-requires-2 c κs =
-    let i = c .before in
-    let m = i .before .before in
-    let e = as-it-is (toZ-ofZ (m .before .before .fits .x)) (m .magnitude .ensures) (i .before .below-zero .ensures) (i .if1 .left) in
-    omega (arith, ap length e)
+put-decimal-requires-2 c κs = omega (arith, ap length (plain (c .before)))
 
 same-length : tie.Need-same-length
 same-length c = search needs
@@ -45,34 +44,19 @@ returns : tie.Need-returns
 returns c =
     let p = c .before .before .before .before .before .before in
     let i = p .before .before in
-    let m = i .before .before in
-    let s = m .before .before in
-    let e = with-minus (toZ-ofZ (s .fits .x)) (m .magnitude .ensures) (i .before .below-zero .ensures) (i .if1 .taken) in
+    let s = i .before .before .before .before in
+    let e = minus i in
     rw e
-    (both (s .args .out .now) (45 ∷ []) (decimal (m .magnitude .result)) (s .args .at) (p .put-byte .ensures) (c .before .before .put-decimal .ensures)
-    (rw e at (s .pre)))
+    (both (s .args .out .now) (45 ∷ []) (decimal (i .before .before .magnitude .result)) (s .args .at) (p .put-byte .ensures)
+    (c .before .before .put-decimal .ensures) (rw e at (s .pre)))
 
 same-length-2 : tie.Need-same-length-2
 same-length-2 c = search needs
 
 returns-2 : tie.Need-returns-2
-returns-2 c =
-    let i = c .before .before .before .before in
-    let m = i .before .before in
-    let s = m .before .before in
-    let e = as-it-is (toZ-ofZ (s .fits .x)) (m .magnitude .ensures) (i .before .below-zero .ensures) (i .if1 .left) in
-    rw e (c .before .before .put-decimal2 .ensures)
+returns-2 c = rw (plain (c .before .before .before .before)) (c .before .before .put-decimal2 .ensures)
 
 pub put-signed-spec : {M : Type 1} → statement M
 put-signed-spec =
-    tie.close
-    (tie.spec
-    magnitude-requires
-    below-zero-requires
-    put-byte-requires
-    put-decimal-requires
-    put-decimal-requires-2
-    same-length
-    returns
-    same-length-2
-    returns-2)
+    tie.close (tie.spec magnitude-requires below-zero-requires put-byte-requires put-decimal-requires put-decimal-requires-2 same-length
+    returns same-length-2 returns-2)

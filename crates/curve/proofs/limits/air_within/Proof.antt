@@ -1,11 +1,12 @@
 -- `air_within` meets its contract: e ≤ P / 10 is 10e ≤ P. Assumes nothing.
-use mathlib.Core.Path.{_≡_, refl, sym, _∙_}
+use mathlib.Core.Path.{_≡_, refl, sym}
 use mathlib.Core.Bool.{Bool, true, false}
 use Prim.Native.Nat.{ℕ, _*_, _/_}
 use native.Mathlib.Omega.{arith}
 use lib.Dec.{leb}
 use borrow.Author.Needs.{needs}
-use borrow.Author.Tests.{not-true, not-false, le-leb, lt-leb, leb-true, leb-false}
+use borrow.Author.Tests.{le-leb, lt-leb, leb-true, leb-false}
+use Rattle.rounding.proofs.Tests.{answered-no, answered-yes}
 use Rattle.curve.specs.Limits.{airWithin}
 use Rattle.curve.proofs.limits.air_within.Statement.{statement}
 use Rattle.curve.proofs.limits.air_within.Tie as tie
@@ -23,20 +24,22 @@ within-requires c κs = search needs
 
 returns : tie.Need-returns
 unfolding airWithin
-returns c = rw (sym (c .before .within .ensures) ∙ not-true _ (c .if1 .taken))
+returns c = rw (answered-no (c .before .within .ensures) (c .if1 .taken))
 
 within-requires-2 : tie.Need-within-requires-2
 within-requires-2 c κs = search needs
 
 returns-2 : tie.Need-returns-2
 unfolding airWithin
-returns-2 c = rw (sym (c .before .before .before .within .ensures) ∙ not-false _ (c .before .before .if1 .left), sym (c .before .within2 .ensures) ∙ not-true _ (c .if2 .taken))
+returns-2 c =
+    let d = c .before .before in
+    rw (answered-yes (d .before .within .ensures) (d .if1 .left), answered-no (c .before .within2 .ensures) (c .if2 .taken))
 
 returns-3 : tie.Need-returns-3
 unfolding airWithin
 returns-3 c =
-    rw (sym (c .before .before .before .before .before .within .ensures) ∙ not-false _ (c .before .before .before .before .if1 .left), sym (c .before .before .before .within2 .ensures) ∙ not-false _ (c .before .before .if2 .left))
-    (tenth (c .before .before .before .before .before .before .args .a .e) (c .before .before .before .before .before .before .args .a .p))
+    let e = c .before .before in let d = e .before .before in let a = d .before .before .args .a in
+    rw (answered-yes (d .before .within .ensures) (d .if1 .left), answered-yes (e .before .within2 .ensures) (e .if2 .left)) (tenth (a .e) (a .p))
 
 pub air-within-spec : {M : Type 1} → statement M
 air-within-spec =

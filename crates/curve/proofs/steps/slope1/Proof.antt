@@ -29,7 +29,8 @@ near-product-requires c κs =
     let f2 : SFits w64 (c .slope2 .result) = search needs in
     simp toZ-ofZ (rw (slope2-is c) (omega (arith, prod 100000000 200000000 (s .pre .1) (slope2-size (s .args .s) (s .pre .0) (s .args .z) (s .pre .1)))))
 
-share-is : (c : tie.After-near-product) → c .near-product .result ≡ nearest (c .before .before .before .args .z *ℤ slope2Of (c .before .before .before .args .s) (c .before .before .before .args .z)) 10000000
+share-is : (c : tie.After-near-product) → let p = c .before .before .before .args in
+    c .near-product .result ≡ nearest (p .z *ℤ slope2Of (p .s) (p .z)) 10000000
 share-is c =
     let fz = c .before .before .before .fits .z in
     let f2 : SFits w64 (c .before .slope2 .result) = search needs in
@@ -40,7 +41,8 @@ sum-requires c κs =
     let s = c .before .before .before in
     let fp : SFits w64 (c .before .before .positive .result) = search needs in
     let fn : SFits w64 (c .near-product .result) = search needs in
-    simp toZ-ofZ (rw (c .before .before .positive .ensures, share-is c) (omega (arith, share1-size (s .args .s) (s .pre .0) (s .args .z) (s .pre .1), s .pre .0 .a1-high)))
+    let size = share1-size (s .args .s) (s .pre .0) (s .args .z) (s .pre .1) in
+    simp toZ-ofZ (rw (c .before .before .positive .ensures, share-is c) (omega (arith, s .pre .0 .a1-high)))
 
 returns : tie.Need-returns
 unfolding slope1Of

@@ -30,7 +30,8 @@ sum-requires c κs =
     let s = c .before .before in
     let fp : SFits w64 (c .before .positive .result) = search needs in
     let fn : SFits w64 (c .near-scaled .result) = search needs in
-    simp toZ-ofZ (rw (c .before .positive .ensures, share-is c) (omega (arith, share2-size (s .args .s) (s .pre .0) (s .args .z) (s .pre .1), s .pre .0 .a2-high)))
+    let size = share2-size (s .args .s) (s .pre .0) (s .args .z) (s .pre .1) in
+    simp toZ-ofZ (rw (c .before .positive .ensures, share-is c) (omega (arith, s .pre .0 .a2-high)))
 
 returns : tie.Need-returns
 unfolding slope2Of

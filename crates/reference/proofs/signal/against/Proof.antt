@@ -6,7 +6,7 @@ use borrow.Author.Needs.{needs}
 use mir.Facts.{toZ-ofZ}
 use mir.Syntax.{w64}
 use mir.Val.{SFits}
-use lib.IntN.{ℤ, pos, natAbs, _+ℤ_, _*ℤ_}
+use lib.IntN.{pos, natAbs, _+ℤ_, _*ℤ_}
 use Rattle.rounding.specs.Near.{nearest}
 use Rattle.rounding.proofs.Integers.{abs-add, abs-mul, prod}
 use Rattle.rounding.proofs.Nearest.{near-size}
@@ -35,7 +35,7 @@ product-size c = prod 340000000 150000000 (c .pre .0) (c .pre .1)
 near-scaled-requires : tie.Need-near-scaled-requires
 near-scaled-requires c κs = let fv = c .before .before .fits .v in simp toZ-ofZ (omega (arith, product-size (c .before .before)))
 
-share-is : (c : tie.After-near-scaled) → c .near-scaled .result ≡ nearest (c .before .before .before .args .v *ℤ pos (c .before .before .before .args .r)) (c .before .before .before .args .k)
+share-is : (c : tie.After-near-scaled) → let p = c .before .before .before .args in c .near-scaled .result ≡ nearest (p .v *ℤ pos (p .r)) (p .k)
 share-is c = let fv = c .before .before .before .fits .v in simp toZ-ofZ at (c .near-scaled .ensures)
 
 -- a share over a divisor of 1 or more is no larger than the product

@@ -1,4 +1,4 @@
--- `format::reader::moved` meets its contract: a walk of its MIR, by hand. A struct is made anew of the slice that the one passed
+-- `reader::moved` meets its contract: a walk of its MIR, by hand. A struct is made anew of the slice that the one passed
 -- holds, and its number plus 24. That the sum does not wrap is the contract's to ask: the record lies in the slice.
 -- The struct is Copy: what it owns is had twice, one copy is kept whole for the exit, and the other, with the facts of the sum in the place of at's, is what the result owns.
 -- Assumes nothing.
@@ -38,13 +38,13 @@ use denote.Triple.Spec.{Meets, tripleOf}
 use denote.Triple.Table.{entered}
 use denote.Triple.Walked.{says, needs, Stays, stay-none, walkOf, goes-none, Walks, ends-at, walked, walk-meets}
 use denote.Exit.{yes}
-use Rattle.format.specs.declared.reader.Reader.{Reader}
-use Rattle.format.proofs.reader.Reader as T
-use Rattle.format.proofs.reader.Reader.Laws as T′
-use Rattle.format.proofs.reader.moved.Key.{name as #format·reader·moved}
-use Rattle.format.proofs.reader.moved as moved
-use Rattle.format.proofs.reader.moved.Statement as stated
-use Rattle.format.proofs.reader.moved.Code as code
+use Rattle.reader.specs.declared.Reader.{Reader}
+use Rattle.reader.proofs.Reader as T
+use Rattle.reader.proofs.Reader.Laws as T′
+use Rattle.reader.proofs.moved.Key.{name as #reader·moved}
+use Rattle.reader.proofs.moved as moved
+use Rattle.reader.proofs.moved.Statement as stated
+use Rattle.reader.proofs.moved.Code as code
 
 -- the struct's type, over the signature's lifetimes
 abbrev B : Lfts 1 → RattleType
@@ -112,5 +112,5 @@ pub moved-spec : {M : Type 1} → stated.statement M
 unfolding code.routine tablesOf
 moved-spec 𝓤 H 𝓜 𝓖 𝓡 =
     entered 𝓤 H (tripleOf 𝓤 H (𝓖 .A) moved.signature (moved.spec 𝓤 H (𝓖 .A) (𝓜 .mem) (𝓡 .run)))
-    (tables 𝓤 H 𝓜 𝓡 code.env .C) (tables 𝓤 H 𝓜 𝓡 code.env .Λ) #format·reader·moved code.function (code.unfolded 𝓤 H 𝓜 𝓡)
+    (tables 𝓤 H 𝓜 𝓡 code.env .C) (tables 𝓤 H 𝓜 𝓡 code.env .Λ) #reader·moved code.function (code.unfolded 𝓤 H 𝓜 𝓡)
     (moved-meets 𝓤 H (𝓖 .A) (givenOf 𝓤 H 𝓜 𝓖) (𝓜 .mem) (𝓡 .run) (tablesOf 𝓤 H 𝓜 (tables 𝓤 H 𝓜 𝓡 code.env)))

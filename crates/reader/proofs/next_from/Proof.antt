@@ -1,4 +1,4 @@
--- `format::reader::next_from` meets its contract: a walk of its MIR, by hand. A `Reader` is made in a local of the slice and the
+-- `reader::next_from` meets its contract: a walk of its MIR, by hand. A `Reader` is made in a local of the slice and the
 -- number passed; `event` and `moved` are called on it, and of the reader that `moved` returns the number is read. All that the
 -- proof knows of the two is that each meets its contract.
 -- A `&[u8]` is Copy: what it owns is kept, and for each call a reader is made of a copy of it. In a local of a body MIR erases
@@ -49,24 +49,24 @@ use Rattle.layout.specs.Records.{eventAt}
 use Rattle.layout.specs.declared.EventRecord.{EventRecord}
 use Rattle.layout.proofs.EventRecord as S
 use Rattle.layout.proofs.EventRecord.Laws as S′
-use Rattle.format.specs.declared.reader.Reader.{Reader}
-use Rattle.format.specs.declared.reader.Yielded.{Yielded}
-use Rattle.format.proofs.reader.Reader as T
-use Rattle.format.proofs.reader.Reader.Laws as T′
-use Rattle.format.proofs.reader.Yielded as Y
-use Rattle.format.proofs.reader.Yielded.Laws as Y′
-use Rattle.format.proofs.reader.event as event
-use Rattle.format.proofs.reader.event.Symbol as event-def
-use Rattle.format.proofs.reader.event.Symbol.{name as #format·reader·event}
-use Rattle.format.proofs.reader.event.Met as event-thm
-use Rattle.format.proofs.reader.moved as moved
-use Rattle.format.proofs.reader.moved.Symbol as moved-def
-use Rattle.format.proofs.reader.moved.Symbol.{name as #format·reader·moved}
-use Rattle.format.proofs.reader.moved.Met as moved-thm
-use Rattle.format.proofs.reader.next_from.Key.{name as #format·reader·next-from}
-use Rattle.format.proofs.reader.next_from as next-from
-use Rattle.format.proofs.reader.next_from.Statement as stated
-use Rattle.format.proofs.reader.next_from.Code as code
+use Rattle.reader.specs.declared.Reader.{Reader}
+use Rattle.reader.specs.declared.Yielded.{Yielded}
+use Rattle.reader.proofs.Reader as T
+use Rattle.reader.proofs.Reader.Laws as T′
+use Rattle.reader.proofs.Yielded as Y
+use Rattle.reader.proofs.Yielded.Laws as Y′
+use Rattle.reader.proofs.event as event
+use Rattle.reader.proofs.event.Symbol as event-def
+use Rattle.reader.proofs.event.Symbol.{name as #reader·event}
+use Rattle.reader.proofs.event.Met as event-thm
+use Rattle.reader.proofs.moved as moved
+use Rattle.reader.proofs.moved.Symbol as moved-def
+use Rattle.reader.proofs.moved.Symbol.{name as #reader·moved}
+use Rattle.reader.proofs.moved.Met as moved-thm
+use Rattle.reader.proofs.next_from.Key.{name as #reader·next-from}
+use Rattle.reader.proofs.next_from as next-from
+use Rattle.reader.proofs.next_from.Statement as stated
+use Rattle.reader.proofs.next_from.Code as code
 
 -- the struct's type, over the signature's lifetimes
 abbrev B : Lfts 1 → RattleType
@@ -160,8 +160,8 @@ module _ {M : Type 1} (𝓤 : URA M) (H : Heap 𝓤) (A : Atoms 𝓤) (W : Given
       -- [what the event owns]
       nothing ! $ owned ! usize (Is usize) (uint-makes 𝓤 H A W w64) k _ (refl, fits) $ fjoin ! $ move ! (1 ∷ 0 ∷ []) $ fjoin ! $ by ! (own-shut 𝓤 H A W Y.the-type Y′.the-laws (t, (k, tt)))
 
-  module _ (C : Calls 𝓤 H) (Λ : Loops 𝓤 H) (fm : FmC 𝓤 H (W .laws) C) (known-event : Triple 𝓤 (C #format·reader·event) (Yields 𝓤 H A mem run))
-      (known-moved : Triple 𝓤 (C #format·reader·moved) (Moved 𝓤 H A mem run)) where
+  module _ (C : Calls 𝓤 H) (Λ : Loops 𝓤 H) (fm : FmC 𝓤 H (W .laws) C) (known-event : Triple 𝓤 (C #reader·event) (Yields 𝓤 H A mem run))
+      (known-moved : Triple 𝓤 (C #reader·moved) (Moved 𝓤 H A mem run)) where
     walk : Is (ShrSlice (named 0) κ u8) s (v ∷ []) → ent 𝓤 (onEntry 𝓤 H A next-from.signature (κ, tt) (q, tt) (s, (n, tt)) at) (WpFn 𝓤 H C Λ code.function (v ∷ vint w64 n ∷ []) Post)
     walk p =
         let slice = shr-slice-lawful 𝓤 H A W (named 0) κ u8 .typed s (v ∷ []) p .0 in
@@ -205,7 +205,7 @@ module _ {M : Type 1} (𝓤 : URA M) (H : Heap 𝓤) (A : Atoms 𝓤) (W : Given
         by ! (exits t (m .at) e (f .1) (is′ .1 .1 .1 .0 .1)))))))))))))))))))
 
 module _ {M : Type 1} (𝓤 : URA M) (H : Heap 𝓤) (A : Atoms 𝓤) (W : Given 𝓤 H A) (mem : Memory → SProp 𝓤) (run : Routine → Fun 𝓤) where
-  next-from-walks : (C : Calls 𝓤 H) (Λ : Loops 𝓤 H) → FmC 𝓤 H (W .laws) C → Triple 𝓤 (C #format·reader·event) (Yields 𝓤 H A mem run) → Triple 𝓤 (C #format·reader·moved) (Moved 𝓤 H A mem run)
+  next-from-walks : (C : Calls 𝓤 H) (Λ : Loops 𝓤 H) → FmC 𝓤 H (W .laws) C → Triple 𝓤 (C #reader·event) (Yields 𝓤 H A mem run) → Triple 𝓤 (C #reader·moved) (Moved 𝓤 H A mem run)
       → Walks 𝓤 H A next-from.ended stayed (WpFn 𝓤 H C Λ code.function) (next-from.clauses 𝓤 H A mem run)
   next-from-walks C Λ fm known-event known-moved = walked 𝓤 H A next-from.ended stayed (next-from.clauses 𝓤 H A mem run) (WpFn 𝓤 H C Λ code.function)
       (λ κs. (slice-vals, (uint-vals w64, tt))) (λ κs. (shr-slice-tells (named 0) (κs .0) u8, (uint-tells w64, tt)))
@@ -213,7 +213,7 @@ module _ {M : Type 1} (𝓤 : URA M) (H : Heap 𝓤) (A : Atoms 𝓤) (W : Given
       walk 𝓤 H A W mem run (κs .0) (qs .0) (a .0) (a .1 .0) (are .1 .0 .1) within C Λ fm known-event known-moved (are .0)))
 
 next-from-meets : {M : Type 1} (𝓤 : URA M) (H : Heap 𝓤) (A : Atoms 𝓤) (W : Given 𝓤 H A) (mem : Memory → SProp 𝓤) (run : Routine → Fun 𝓤) (𝓣 : Tables 𝓤 H)
-    → Triple 𝓤 (𝓣 .C #format·reader·event) (Yields 𝓤 H A mem run) → Triple 𝓤 (𝓣 .C #format·reader·moved) (Moved 𝓤 H A mem run)
+    → Triple 𝓤 (𝓣 .C #reader·event) (Yields 𝓤 H A mem run) → Triple 𝓤 (𝓣 .C #reader·moved) (Moved 𝓤 H A mem run)
     → Meets 𝓤 H A next-from.signature (WpFn 𝓤 H (𝓣 .C) (𝓣 .Λ) code.function) (next-from.spec 𝓤 H A mem run)
 next-from-meets 𝓤 H A W mem run 𝓣 known-event known-moved =
     walk-meets 𝓤 H A next-from.ended stayed W (goes-none-slice 𝓤 H A W 1 (0 ∷ []) tt (plain (λ _. u8)) yes, (goes-none 𝓤 H A W 1 (λ _. usize) yes (λ κs x f. refl), tt)) (next-from.clauses 𝓤 H A mem run)
@@ -223,7 +223,7 @@ pub next-from-spec : {M : Type 1} → stated.statement M
 unfolding code.routine tablesOf
 next-from-spec 𝓤 H 𝓜 𝓖 𝓡 =
     entered 𝓤 H (tripleOf 𝓤 H (𝓖 .A) next-from.signature (next-from.spec 𝓤 H (𝓖 .A) (𝓜 .mem) (𝓡 .run)))
-    (tables 𝓤 H 𝓜 𝓡 code.env .C) (tables 𝓤 H 𝓜 𝓡 code.env .Λ) #format·reader·next-from code.function (code.unfolded 𝓤 H 𝓜 𝓡)
+    (tables 𝓤 H 𝓜 𝓡 code.env .C) (tables 𝓤 H 𝓜 𝓡 code.env .Λ) #reader·next-from code.function (code.unfolded 𝓤 H 𝓜 𝓡)
     (next-from-meets 𝓤 H (𝓖 .A) (givenOf 𝓤 H 𝓜 𝓖) (𝓜 .mem) (𝓡 .run) (tablesOf 𝓤 H 𝓜 (tables 𝓤 H 𝓜 𝓡 code.env))
-    (cited 𝓤 H (Yields 𝓤 H (𝓖 .A) (𝓜 .mem) (𝓡 .run)) 𝓜 𝓡 code.env #format·reader·event event-def.routine code.calls-format·reader·event (event-thm.met 𝓤 H 𝓜 𝓖 𝓡))
-    (cited 𝓤 H (Moved 𝓤 H (𝓖 .A) (𝓜 .mem) (𝓡 .run)) 𝓜 𝓡 code.env #format·reader·moved moved-def.routine code.calls-format·reader·moved (moved-thm.met 𝓤 H 𝓜 𝓖 𝓡)))
+    (cited 𝓤 H (Yields 𝓤 H (𝓖 .A) (𝓜 .mem) (𝓡 .run)) 𝓜 𝓡 code.env #reader·event event-def.routine code.calls-reader·event (event-thm.met 𝓤 H 𝓜 𝓖 𝓡))
+    (cited 𝓤 H (Moved 𝓤 H (𝓖 .A) (𝓜 .mem) (𝓡 .run)) 𝓜 𝓡 code.env #reader·moved moved-def.routine code.calls-reader·moved (moved-thm.met 𝓤 H 𝓜 𝓖 𝓡)))

@@ -1,4 +1,4 @@
--- `format::reader::event` meets its contract: a walk of its MIR, by hand. The struct is taken apart, and `event_at` is called on
+-- `reader::event` meets its contract: a walk of its MIR, by hand. The struct is taken apart, and `event_at` is called on
 -- the slice and the number. All that the proof knows of `event_at` is that it meets its contract.
 -- The struct is Copy: what it owns is had twice, one copy is kept whole for the exit, and of the other what src owns goes to the callee, beside the lifetime's token, which comes back.
 -- Assumes nothing.
@@ -45,19 +45,19 @@ use denote.Exit.{yes}
 use denote.Triple.Clauses.{ensured, lasts}
 use Rattle.layout.specs.Records.{eventAt}
 use Rattle.layout.specs.declared.EventRecord.{EventRecord}
-use Rattle.format.specs.declared.reader.Reader.{Reader}
-use Rattle.format.proofs.reader.Reader as T
-use Rattle.format.proofs.reader.Reader.Laws as T′
+use Rattle.reader.specs.declared.Reader.{Reader}
+use Rattle.reader.proofs.Reader as T
+use Rattle.reader.proofs.Reader.Laws as T′
 use Rattle.layout.proofs.EventRecord as S
 use Rattle.layout.proofs.EventRecord.Laws as S′
 use Rattle.layout.proofs.records.event_at as step
 use Rattle.layout.proofs.records.event_at.Symbol as step-def
 use Rattle.layout.proofs.records.event_at.Symbol.{name as #layout·records·event-at}
 use Rattle.layout.proofs.records.event_at.Met as step-thm
-use Rattle.format.proofs.reader.event.Key.{name as #format·reader·event}
-use Rattle.format.proofs.reader.event as event
-use Rattle.format.proofs.reader.event.Statement as stated
-use Rattle.format.proofs.reader.event.Code as code
+use Rattle.reader.proofs.event.Key.{name as #reader·event}
+use Rattle.reader.proofs.event as event
+use Rattle.reader.proofs.event.Statement as stated
+use Rattle.reader.proofs.event.Code as code
 
 -- the struct's type, over the signature's lifetimes
 abbrev B : Lfts 1 → RattleType
@@ -171,6 +171,6 @@ pub event-spec : {M : Type 1} → stated.statement M
 unfolding code.routine tablesOf
 event-spec 𝓤 H 𝓜 𝓖 𝓡 =
     entered 𝓤 H (tripleOf 𝓤 H (𝓖 .A) event.signature (event.spec 𝓤 H (𝓖 .A) (𝓜 .mem) (𝓡 .run)))
-    (tables 𝓤 H 𝓜 𝓡 code.env .C) (tables 𝓤 H 𝓜 𝓡 code.env .Λ) #format·reader·event code.function (code.unfolded 𝓤 H 𝓜 𝓡)
+    (tables 𝓤 H 𝓜 𝓡 code.env .C) (tables 𝓤 H 𝓜 𝓡 code.env .Λ) #reader·event code.function (code.unfolded 𝓤 H 𝓜 𝓡)
     (event-meets 𝓤 H (𝓖 .A) (givenOf 𝓤 H 𝓜 𝓖) (𝓜 .mem) (𝓡 .run) (tablesOf 𝓤 H 𝓜 (tables 𝓤 H 𝓜 𝓡 code.env))
     (cited 𝓤 H (EventAt 𝓤 H (𝓖 .A) (𝓜 .mem) (𝓡 .run)) 𝓜 𝓡 code.env #layout·records·event-at step-def.routine code.calls-layout·records·event-at (step-thm.met 𝓤 H 𝓜 𝓖 𝓡)))

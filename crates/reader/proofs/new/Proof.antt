@@ -1,4 +1,4 @@
--- `format::reader::new` meets its contract: a walk of its MIR, by hand. A `Reader` is made of the slice passed and the number
+-- `reader::new` meets its contract: a walk of its MIR, by hand. A `Reader` is made of the slice passed and the number
 -- that `first_event` gives of it. All that the proof knows of `first_event` is that it meets its contract.
 -- A `&[u8]` is Copy, so what it owns is had twice for each use: for the callee, for src at exit, and inside the result, beside the facts of at.
 -- Assumes nothing.
@@ -39,18 +39,18 @@ use denote.Triple.Table.{entered, cited}
 use denote.Triple.Walked.{says, needs, Stays, stay-none-slice, walkOf, goes-none-slice, Walks, ends-at, walked, walk-meets}
 use denote.Exit.{yes}
 use denote.Triple.Clauses.{ensured, lasts}
 use Rattle.format.specs.Header.{firstEvent}
-use Rattle.format.specs.declared.reader.Reader.{Reader}
-use Rattle.format.proofs.reader.Reader as T
-use Rattle.format.proofs.reader.Reader.Laws as T′
+use Rattle.reader.specs.declared.Reader.{Reader}
+use Rattle.reader.proofs.Reader as T
+use Rattle.reader.proofs.Reader.Laws as T′
 use Rattle.format.proofs.header.first_event as first-event
 use Rattle.format.proofs.header.first_event.Symbol as first-event-def
 use Rattle.format.proofs.header.first_event.Symbol.{name as #format·header·first-event}
 use Rattle.format.proofs.header.first_event.Met as first-event-thm
-use Rattle.format.proofs.reader.new.Key.{name as #format·reader·new}
-use Rattle.format.proofs.reader.new as new
-use Rattle.format.proofs.reader.new.Statement as stated
-use Rattle.format.proofs.reader.new.Code as code
+use Rattle.reader.proofs.new.Key.{name as #reader·new}
+use Rattle.reader.proofs.new as new
+use Rattle.reader.proofs.new.Statement as stated
+use Rattle.reader.proofs.new.Code as code
 
 abbrev stayed : Stays (new.ended .signature .params) (new.ended .kept)
 stayed = (stay-none-slice (0 ∷ []) tt (plain (λ _. u8)) yes, tt)
@@ -140,6 +140,6 @@ pub new-spec : {M : Type 1} → stated.statement M
 unfolding code.routine tablesOf
 new-spec 𝓤 H 𝓜 𝓖 𝓡 =
     entered 𝓤 H (tripleOf 𝓤 H (𝓖 .A) new.signature (new.spec 𝓤 H (𝓖 .A) (𝓜 .mem) (𝓡 .run)))
-    (tables 𝓤 H 𝓜 𝓡 code.env .C) (tables 𝓤 H 𝓜 𝓡 code.env .Λ) #format·reader·new code.function (code.unfolded 𝓤 H 𝓜 𝓡)
+    (tables 𝓤 H 𝓜 𝓡 code.env .C) (tables 𝓤 H 𝓜 𝓡 code.env .Λ) #reader·new code.function (code.unfolded 𝓤 H 𝓜 𝓡)
     (new-meets 𝓤 H (𝓖 .A) (givenOf 𝓤 H 𝓜 𝓖) (𝓜 .mem) (𝓡 .run) (tablesOf 𝓤 H 𝓜 (tables 𝓤 H 𝓜 𝓡 code.env))
     (cited 𝓤 H (FirstEvent 𝓤 H (𝓖 .A) (𝓜 .mem) (𝓡 .run)) 𝓜 𝓡 code.env #format·header·first-event first-event-def.routine code.calls-format·header·first-event (first-event-thm.met 𝓤 H 𝓜 𝓖 𝓡)))

@@ -1,2 +1,3 @@
 pub mod Header
 pub mod Entries
+pub mod File

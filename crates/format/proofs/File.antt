@@ -59,8 +59,7 @@ length-flat write size (a ∷ xs) = omega (arith, length-append (write a) (flatM
 module _ (ss : List SheetRecord) (es : List EventRecord) where
   pub length-file : length (fileBytes ss es) ≡ 16 + 24 * length ss + 24 * length es
   unfolding fileBytes wordsBytes bytesOf
-  length-file =
-      omega (arith, length-append (flatMap sheetBytes ss) (flatMap eventBytes es), length-flat sheetBytes length-sheet ss, length-flat eventBytes length-event es)
+  length-file = simp length-append (omega (arith, length-flat sheetBytes length-sheet ss, length-flat eventBytes length-event es))
 
   module _ (few : length ss ≤ 16) (short : length es ≤ 2700) where
     sheets-said : sheetCount (fileBytes ss es) ≡ length ss

@@ -13,9 +13,9 @@ use Rattle.reader.specs.declared.Reader.{Reader}
 use Rattle.reader.proofs.Walk.{_≡_, refl, _+_, _≤_, [], _∷_, length, URA, named, w64, Val, WT, vint, SProp, ent, id⊢, Lft, Share, Memory, Routine}
 use Rattle.reader.proofs.Walk.{Heap, WpFn, Tables, Atoms, Fun, givenOf, tables, Given, ‵, raw, _$_, _∵_, !, qed, move, drop, use1, use2, learn, fsplit}
 use Rattle.reader.proofs.Walk.{fjoin, suffices, frame, done, whole, sub, look-in, look, init, forget, stop, fld, from, load, of-opd, and-then, no-more}
-use Rattle.reader.proofs.Walk.{assigns, land, returns, enter, alloc1, alloc0, params1, pass1, pass0, free1, free0, fmOf, owns, now, nothing, Contract}
-use Rattle.reader.proofs.Walk.{Triple, calls-at, onEntry, tripleOf, cited, says, needs, walkOf, ends-at, α, Held, machine, token, gone, asks, returned}
-use Rattle.reader.proofs.Walk.{met}
+use Rattle.reader.proofs.Walk.{land, returns, enter, alloc1, alloc0, params1, pass1, pass0, free1, free0, fmOf, owns, now, nothing, Contract, Triple}
+use Rattle.reader.proofs.Walk.{calls-at, onEntry, tripleOf, cited, says, needs, walkOf, ends-at, α, Held, machine, token, gone, var, sets, asks}
+use Rattle.reader.proofs.Walk.{returned, met}
 use Rattle.reader.proofs.Reader as T
 use Rattle.reader.proofs.Reader.Laws as T′
 use Rattle.layout.proofs.EventRecord as S
@@ -50,15 +50,15 @@ module _ {M : Type 1} (𝓤 : URA M) (H : Heap 𝓤) (A : Atoms 𝓤) (W : Given
   walk wt within =
       qed W (token κ q ∷ ‵ (owns (Held κ ∷ []) (d, tt) (mach ∷ [], tt)) ∷ []) ∵ enter ! (𝓣 .C) (𝓣 .Λ) code.function (mach ∷ []) _ $
       alloc1 ! (λ l₀. alloc1 ! (λ l₁. alloc1 ! (λ l₂. alloc1 ! (λ l₃. alloc0 ! $ params1 ! $ pass1 ! (init ! 4 refl wt) $ pass0 ! $
-      assigns ! (of-opd ! (load ! (from ! (fld ! refl (stop !))) (look-in ! 4 (sub ! 0 refl (whole !))))) (from ! (stop !)) (init ! 2 refl (tt, wt .1 .0)) $
-      assigns ! (of-opd ! (load ! (from ! (fld ! refl (stop !))) (look-in ! 4 (sub ! 1 refl (whole !))))) (from ! (stop !)) (init ! 0 refl (tt, wt .1 .1 .0)) $
+      sets ! (of-opd ! (load ! (from ! (fld ! refl (stop !))) (look-in ! 4 (sub ! 0 refl (whole !))))) (init ! 2 refl (tt, wt .1 .0)) $
+      sets ! (of-opd ! (load ! (from ! (fld ! refl (stop !))) (look-in ! 4 (sub ! 1 refl (whole !))))) (init ! 0 refl (tt, wt .1 .1 .0)) $
       -- [_3; …; _2; …; _1; …; room for _0; …; the token; what the reader owns]
       move ! (9 ∷ []) $ fsplit ! $ move ! (1 ∷ []) $ drop ! $
       use1 W (given (mach ∷ [] ≡ mach ∷ []) (‵ (all-own (T.the-type (α κ) .parts) (T′.the-laws (α κ)) (d .src, (d .at, tt)))))
       (own-open 𝓤 H A W (T.the-type (α κ)) (T′.the-laws (α κ)) (d .src, (d .at, tt)) mach) $ learn ! (λ _.
       move ! (9 ∷ 0 ∷ []) $ use2 W (raw (EventAt .pre to)) (asks W within) $
       calls-at ! (fmOf 𝓤 H (W .laws) 𝓣) EventAt known to
-      (and-then ! (load ! (from ! (stop !)) (look ! 3 refl)) (and-then ! (load ! (from ! (stop !)) (look ! 1 refl)) (no-more !))) (λ u.
+      (and-then ! (var ! 3 refl) (and-then ! (var ! 1 refl) (no-more !))) (λ u.
       returned W step.ended (step.clauses 𝓤 H A mem run) (κ, tt) (d .src, (d .at, tt)) tt (λ r. r ≡ eventAt (now (d .src)) (d .at)) (λ r ws. id⊢ 𝓤 _) κ q u tt (λ r e is.
       -- [what the event owns; the token; _3; …; _2; …; _1; …; room for _0; …]
       land ! (from ! (stop !)) (init ! 8 refl (LL.lawful S.the-type S′.the-laws 𝓤 H A W .typed r _ is .0)) $

@@ -7,9 +7,10 @@ use Rattle.reader.specs.declared.Reader.{Reader}
 use Rattle.reader.proofs.Walk.{_≡_, refl, ap, ℕ, _≤_, List, [], _∷_, length, URA, fullShare, named, erased, w64, Val, vint, SProp, ent, id⊢, Lft}
 use Rattle.reader.proofs.Walk.{Share, fat, Memory, Routine, Heap, WpFn, Tables, Atoms, Fun, givenOf, tables, Given, ‵, raw, _$_, _∵_, !, qed, move}
 use Rattle.reader.proofs.Walk.{drop, use1, rewrite, fjoin, suffices, frame, done, whole, sub, look-in, look, init, forget, stop, fld, from, load}
-use Rattle.reader.proofs.Walk.{of-opd, and-then, no-more, assigns, land, returns, enter, alloc1, alloc0, params1, pass1, pass0, free1, free0, fmOf, Is}
+use Rattle.reader.proofs.Walk.{of-opd, and-then, no-more, land, returns, enter, alloc1, alloc0, params1, pass1, pass0, free1, free0, fmOf, Is}
 use Rattle.reader.proofs.Walk.{uint-makes, u8, usize, RefT, now, slice-vals, shr-slice-tells, shr-slice-lawful, only, owned, nothing, Contract, Triple}
-use Rattle.reader.proofs.Walk.{calls-at, onEntry, tripleOf, cited, says, needs, walkOf, ends-at, αᵉ, Bytes, machine, gone, asks, returned, met}
+use Rattle.reader.proofs.Walk.{calls-at, onEntry, tripleOf, cited, says, needs, walkOf, ends-at, αᵉ, Bytes, machine, gone, var, sets, asks, returned}
+use Rattle.reader.proofs.Walk.{met}
 use Rattle.reader.proofs.Reader as T
 use Rattle.reader.proofs.Reader.Laws as T′
 use Rattle.reader.proofs.new as new
@@ -44,12 +45,12 @@ module _ {M : Type 1} (𝓤 : URA M) (H : Heap 𝓤) (A : Atoms 𝓤) (W : Given
       alloc1 ! (λ l₀. alloc1 ! (λ l₁. alloc1 ! (λ l₂. alloc0 ! $ params1 ! $
       pass1 ! (init ! 2 refl (shr-slice-lawful 𝓤 H A W (named 0) κ u8 .typed s (machine s ∷ []) p .0)) $ pass0 ! $
       move ! (6 ∷ []) $ use1 W (raw (New .pre to)) (asks W header) $
-      calls-at ! (fmOf 𝓤 H (W .laws) 𝓣) New known to (and-then ! (load ! (from ! (stop !)) (look ! 3 refl)) (no-more !)) (λ u.
+      calls-at ! (fmOf 𝓤 H (W .laws) 𝓣) New known to (and-then ! (var ! 3 refl) (no-more !)) (λ u.
       returned W new.ended (new.clauses 𝓤 H A mem run) (κ, tt) (s, tt) tt Fresh (λ r ws. id⊢ 𝓤 _) κ q u tt (λ r e is.
       -- [what the reader owns; the token; room for _2; …; _1; …; room for _0; …]
       drop ! $ land ! (from ! (stop !)) (init ! 1 refl (LL.lawful (T.the-type (αᵉ κ)) (T′.the-laws (αᵉ κ)) 𝓤 H A W .typed r _ is .0)) $
       rewrite ! 1 (λ (x : Val). ‵ (fat fullShare (T′.mir erased) l₂ 0 x)) (ap only (LL.tells (T.the-type (αᵉ κ)) (T′.the-laws (αᵉ κ)) r _ is)) refl $
-      assigns ! (of-opd ! (load ! (from ! (fld ! refl (stop !))) (look-in ! 1 (sub ! 1 refl (whole !))))) (from ! (stop !))
+      sets ! (of-opd ! (load ! (from ! (fld ! refl (stop !))) (look-in ! 1 (sub ! 1 refl (whole !)))))
       (init ! 5 refl (tt, record { fits = is .1 .1 .1 .0 .1 })) $
       returns ! (look ! 5 refl) $ forget ! 1 refl $ forget ! 3 refl $ forget ! 5 refl $
       move ! (5 ∷ 6 ∷ []) $ free1 ! $ move ! (3 ∷ 4 ∷ []) $ free1 ! $ move ! (1 ∷ 2 ∷ []) $ free1 ! $ free0 ! $

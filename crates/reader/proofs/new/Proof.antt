@@ -6,11 +6,11 @@ use contract.Running.{tablesOf}
 use Rattle.format.specs.Header.{firstEvent}
 use Rattle.reader.proofs.Walk.{_≡_, refl, ap, ℕ, _≤_, List, [], _∷_, length, URA, fullShare, named, w64, tyInt, Val, SProp, ent, id⊢, Lft, Share, fat}
 use Rattle.reader.proofs.Walk.{Memory, Routine, Heap, WpFn, Tables, Atoms, Fun, givenOf, tables, Given, ‵, raw, _⊛_, _$_, _∵_, !, qed, by, move, drop}
-use Rattle.reader.proofs.Walk.{use1, use2, rewrite, split, fsplit, fjoin, suffices, frame, agg, look, init, forget, stop, from, load, and-then}
-use Rattle.reader.proofs.Walk.{no-more, assigns, land, returns, enter, alloc1, alloc0, params1, pass1, pass0, free1, free0, fmOf, owns, Is}
-use Rattle.reader.proofs.Walk.{uint-lawful, u8, RefT, now, slice-vals, shr-slice-tells, shr-slice-lawful, shr-slice-copy, only, nothing, Contract}
-use Rattle.reader.proofs.Walk.{Triple, calls-at, onEntry, tripleOf, cited, says, needs, walkOf, ends-at, Bytes, machine, reader, token, gone, asks}
-use Rattle.reader.proofs.Walk.{made, returned, met}
+use Rattle.reader.proofs.Walk.{use1, use2, rewrite, split, fsplit, fjoin, suffices, frame, agg, look, init, forget, stop, from, and-then, no-more}
+use Rattle.reader.proofs.Walk.{land, returns, enter, alloc1, alloc0, params1, pass1, pass0, free1, free0, fmOf, owns, Is, uint-lawful, u8, RefT, now}
+use Rattle.reader.proofs.Walk.{slice-vals, shr-slice-tells, shr-slice-lawful, shr-slice-copy, only, nothing, Contract, Triple, calls-at, onEntry}
+use Rattle.reader.proofs.Walk.{tripleOf, cited, says, needs, walkOf, ends-at, Bytes, machine, reader, token, gone, var, sets, asks, made, returned}
+use Rattle.reader.proofs.Walk.{met}
 use Rattle.format.proofs.header.first_event as first-event
 use Rattle.format.proofs.header.first_event.Symbol as first-event-def
 use Rattle.format.proofs.header.first_event.Symbol.{name as #format·header·first-event}
@@ -43,12 +43,12 @@ module _ {M : Type 1} (𝓤 : URA M) (H : Heap 𝓤) (A : Atoms 𝓤) (W : Given
       move ! (7 ∷ []) $ fsplit ! $ use1 W (‵ (Bytes κ .own s (machine s ∷ [])) ⊛ ‵ (Bytes κ .own s (machine s ∷ [])))
       (shr-slice-copy 𝓤 H A W (named 0) κ u8 .twice s (machine s ∷ [])) $ split ! $ move ! (0 ∷ 2 ∷ []) $ fjoin ! $
       move ! (8 ∷ 0 ∷ []) $ use2 W (raw (FirstEvent .pre to)) (asks W header) $
-      calls-at ! (fmOf 𝓤 H (W .laws) 𝓣) FirstEvent known to (and-then ! (load ! (from ! (stop !)) (look ! 4 refl)) (no-more !)) (λ u.
+      calls-at ! (fmOf 𝓤 H (W .laws) 𝓣) FirstEvent known to (and-then ! (var ! 4 refl) (no-more !)) (λ u.
       returned W first-event.ended (first-event.clauses 𝓤 H A mem run) (κ, tt) (s, tt) tt (λ n. n ≡ firstEvent (now s)) (λ n ws. id⊢ 𝓤 _) κ q u tt (λ n e is.
       -- [what the number owns; the token; what s owns; room for _2; …; _1; …; room for _0; …]
       drop ! $ land ! (from ! (stop !)) (init ! 2 refl (uint-lawful 𝓤 H A W w64 .typed n _ is .0)) $
       rewrite ! 2 (λ (x : Val). ‵ (fat fullShare (tyInt w64) l₂ 0 x)) (ap only (is .0)) refl $
-      assigns ! (agg ! (and-then ! (load ! (from ! (stop !)) (look ! 4 refl)) (and-then ! (load ! (from ! (stop !)) (look ! 2 refl)) (no-more !)))) (from ! (stop !))
+      sets ! (agg ! (and-then ! (var ! 4 refl) (and-then ! (var ! 2 refl) (no-more !))))
       (init ! 6 refl (tt, (shr-slice-lawful 𝓤 H A W (named 0) κ u8 .typed s (machine s ∷ []) p .0 .1, (record { fits = is .1 }, tt)))) $
       returns ! (look ! 6 refl) $ forget ! 2 refl $ forget ! 4 refl $ forget ! 6 refl $
       move ! (6 ∷ 7 ∷ []) $ free1 ! $ move ! (4 ∷ 5 ∷ []) $ free1 ! $ move ! (2 ∷ 3 ∷ []) $ free1 ! $ free0 ! $

@@ -1,2 +1,4 @@
 pub mod Zero
 pub mod Shape
+pub mod Inverse
+pub mod File

@@ -1,11 +1,14 @@
 -- An event record as an entry: document 01's nine kinds, with zero where a kind has no field; else it is malformed, which is
--- refusal 11. Assumes nothing.
+-- refusal 11. And the record of an event. Assumes nothing.
+use Prim.Native.Nat.{ℕ}
+use mathlib.Core.Path.{_≡_}
 use mathlib.Core.Bool.{Bool, _&&_, cond}
 use lib.Dec.{eqb}
-use lib.IntN.{natAbs}
+use lib.IntN.{ℤ, pos, natAbs}
 use Rattle.layout.specs.declared.EventRecord.{EventRecord}
 use Rattle.sampling.specs.declared.Measurement.{Measurement}
 use Rattle.engine.specs.declared.Event.{Event}
+use Rattle.engine.specs.declared.Event.the-variants.{Load, Zero, Span, Reference, Absolute, Sample, Start, Stop, Area}
 use Rattle.engine.specs.declared.Entry.{Entry}
 
 -- fields that are zero
@@ -45,3 +48,24 @@ byKind r =
 -- the three bytes after the kind are zero
 unfoldable pub entryOf : EventRecord → Entry
 entryOf r = cond (eqb (r .pad) 0) (byKind r) (Entry.Malformed (r .kind))
+
+-- and back: kind, three zero bytes, raw, C, P, T, e
+abbrev pub fields : ℕ → ℤ → ℕ → ℕ → ℕ → ℕ → EventRecord
+fields kind raw cylinder p t e = record { kind = kind; pad = 0; raw = raw; cylinder = cylinder; p = p; t = t; e = e }
+
+-- the record of an event, with zero where its kind has no field
+abbrev pub recordOfEvent : Event → EventRecord
+recordOfEvent (Load index) = fields 1 (pos 0) index 0 0 0
+recordOfEvent (Zero raw) = fields 2 raw 0 0 0 0
+recordOfEvent (Span at cylinder) = fields 3 (at .raw) cylinder (at .p) (at .t) (at .e)
+recordOfEvent (Reference cylinder e) = fields 4 (pos 0) cylinder 0 0 e
+recordOfEvent Absolute = fields 5 (pos 0) 0 0 0 0
+recordOfEvent (Sample at) = fields 6 (at .raw) 0 (at .p) (at .t) (at .e)
+recordOfEvent Start = fields 7 (pos 0) 0 0 0 0
+recordOfEvent Stop = fields 8 (pos 0) 0 0 0 0
+recordOfEvent Area = fields 9 (pos 0) 0 0 0 0
+
+-- the two are inverse: an event's record is read as the event, and no other record is
+pub record EntryInverse : Type 0 where
+  pub known : (e : Event) → entryOf (recordOfEvent e) ≡ Entry.Known e
+  pub only : (r : EventRecord) (e : Event) → entryOf r ≡ Entry.Known e → r ≡ recordOfEvent e

@@ -1,3 +1,3 @@
 pub mod Header
 pub mod Entries
-pub mod Reader
+pub mod File

@@ -1,4 +1,3 @@
-// The format of document 01's session file: its header, its events as entries, and a reader over it.
+// The format of document 01's session file: its header, and its events as entries.
 pub mod entries;
 pub mod header;
-pub mod reader;

@@ -17,8 +17,8 @@ use Rattle.engine.specs.Rules.{fresh}
 use Rattle.engine.specs.Step.{stepOf}
 use Rattle.format.specs.Header.{sheetCount, eventCount, firstEvent, wellFormed, eventsFrom}
 use Rattle.format.specs.Entries.{entryOf}
-use Rattle.format.specs.Reader.{yieldedAt}
-use Rattle.format.specs.declared.reader.Yielded.{Yielded}
+use Rattle.reader.specs.Reader.{yieldedAt}
+use Rattle.reader.specs.declared.Yielded.{Yielded}
 use Rattle.session.specs.Run.{recordOf, answersFrom}
 use Rattle.text.specs.Line.{decimal, signedDecimal, lineOf, lineRoom}
 use Rattle.session.specs.Text.{linesFrom, refusedLine, linesOf, printedOf, linesStatus, linesWritten, linesOutput}

@@ -15,9 +15,9 @@ use engine::fresh_state;
 use engine::step;
 use format::entries::entry_of;
 use format::header::event_count;
-use format::reader::first;
-use format::reader::next_from;
 use layout::AnswerRecord;
+use reader::first;
+use reader::next_from;
 use text::put_line;
 
 // Puts what the program prints for a file at the start of out, which has room for the longest line of each of 2,700 events, and

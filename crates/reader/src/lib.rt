@@ -4,9 +4,9 @@ ghost use mathlib.Core.Path.{_≡_};
 ghost use Prim.Native.Nat.{_+_, _≤_};
 ghost use lib.ListN.{length};
 ghost use Rattle.layout.specs.Records.{eventAt};
 ghost use Rattle.format.specs.Header.{firstEvent};
-ghost use Rattle.format.specs.Reader.{yieldedAt};
-use crate::header::first_event;
+ghost use Rattle.reader.specs.Reader.{yieldedAt};
+use format::header::first_event;
 use layout::EventRecord;
 use layout::records::event_at;
 

@@ -1,9 +1,9 @@
--- `host::answers::sample_in` meets its contract, by the length. Assumes nothing.
+-- `doubles::answers::sample_in` meets its contract, by the length. Assumes nothing.
 use borrow.Author.Needs.{needs}
 use borrow.Author.Tests.{le-leb, lt-leb}
-use Rattle.host.specs.Doubles.{hostSampleIn}
-use Rattle.host.proofs.answers.sample_in.Statement.{statement}
-use Rattle.host.proofs.answers.sample_in.Tie as tie
+use Rattle.doubles.specs.Doubles.{hostSampleIn}
+use Rattle.doubles.proofs.answers.sample_in.Statement.{statement}
+use Rattle.doubles.proofs.answers.sample_in.Tie as tie
 
 returns : tie.Need-returns
 unfolding hostSampleIn

@@ -1,9 +1,9 @@
--- `host::answers::area_in` meets its contract, by the length. Assumes nothing.
+-- `doubles::answers::area_in` meets its contract, by the length. Assumes nothing.
 use borrow.Author.Needs.{needs}
 use borrow.Author.Tests.{le-leb, lt-leb}
-use Rattle.host.specs.Doubles.{hostAreaIn}
-use Rattle.host.proofs.answers.area_in.Statement.{statement}
-use Rattle.host.proofs.answers.area_in.Tie as tie
+use Rattle.doubles.specs.Doubles.{hostAreaIn}
+use Rattle.doubles.proofs.answers.area_in.Statement.{statement}
+use Rattle.doubles.proofs.answers.area_in.Tie as tie
 
 returns : tie.Need-returns
 unfolding hostAreaIn

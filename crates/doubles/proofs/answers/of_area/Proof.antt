@@ -1,14 +1,14 @@
--- `host::answers::of_area` meets its contract: a refusal, or an area, its double exact. Assumes nothing.
+-- `doubles::answers::of_area` meets its contract: a refusal, or an area, its double exact. Assumes nothing.
 use mathlib.Core.Path.{_≡_, sym, _∙_}
 use mathlib.Core.Bool.{true}
 use borrow.Author.Needs.{needs}
 use borrow.Author.Tests.{not-true, not-false}
 use mir.Syntax.{w64}
 use mir.Val.{toZ, ofZ}
-use Rattle.host.specs.Doubles.{acceptedAs, hostArea}
-use Rattle.host.proofs.Laws.{in-float, is-whole, below, x-limit}
-use Rattle.host.proofs.answers.of_area.Statement.{statement}
-use Rattle.host.proofs.answers.of_area.Tie as tie
+use Rattle.doubles.specs.Doubles.{acceptedAs, hostArea}
+use Rattle.doubles.proofs.Laws.{in-float, is-whole, below, x-limit}
+use Rattle.doubles.proofs.answers.of_area.Statement.{statement}
+use Rattle.doubles.proofs.answers.of_area.Tie as tie
 
 accepted-requires : tie.Need-accepted-requires
 accepted-requires c κs = search needs

@@ -15,9 +15,9 @@ use mir.Facts.{yes-leb, yes-ltb}
 use Rattle.curve.proofs.Within.{both}
 use Rattle.layout.specs.declared.AnswerRecord.{AnswerRecord}
 use Rattle.layout.specs.Records.{answerAt}
-use Rattle.host.specs.declared.Doubles.{Doubles}
-use Rattle.host.specs.declared.HostAnswer.{HostAnswer}
-use Rattle.host.specs.Doubles.{doubleOf, Whole, belowLimit, doublesOf, acceptedAs, refusedWith, hostSample, hostArea, hostSampleIn, hostAreaIn}
+use Rattle.doubles.specs.declared.Doubles.{Doubles}
+use Rattle.doubles.specs.declared.HostAnswer.{HostAnswer}
+use Rattle.doubles.specs.Doubles.{doubleOf, Whole, belowLimit, doublesOf, acceptedAs, refusedWith, hostSample, hostArea, hostSampleIn, hostAreaIn}
 
 pub below : (z : ℤ) → belowLimit z ≡ true → natAbs z < 2 ^ 53
 below z e = omega (arith, ltb-true (natAbs z) _ e)

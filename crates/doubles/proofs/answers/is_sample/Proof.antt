@@ -1,12 +1,12 @@
--- `host::answers::is_sample` meets its contract, test by test. Assumes nothing.
+-- `doubles::answers::is_sample` meets its contract, test by test. Assumes nothing.
 use mathlib.Core.Path.{sym, _∙_}
 use borrow.Author.Needs.{needs}
 use borrow.Author.Tests.{not-true, not-false}
 use mir.Facts.{toZ-ofZ}
 use mir.Syntax.{w64}
 use mir.Val.{SFits}
-use Rattle.host.proofs.answers.is_sample.Statement.{statement}
-use Rattle.host.proofs.answers.is_sample.Tie as tie
+use Rattle.doubles.proofs.answers.is_sample.Statement.{statement}
+use Rattle.doubles.proofs.answers.is_sample.Tie as tie
 
 accepted-requires : tie.Need-accepted-requires
 accepted-requires c κs = search needs

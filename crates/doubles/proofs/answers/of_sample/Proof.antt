@@ -1,4 +1,4 @@
--- `host::answers::of_sample` meets its contract: a refusal, or a reading, each double exact. Assumes nothing.
+-- `doubles::answers::of_sample` meets its contract: a refusal, or a reading, each double exact. Assumes nothing.
 use mathlib.Core.Path.{_≡_, sym, _∙_}
 use mathlib.Core.Bool.{true, _&&_}
 use Prim.Native.Nat.{_<_}
@@ -8,10 +8,10 @@ use borrow.Author.Tests.{not-true, not-false}
 use lib.IntN.{pos}
 use mir.Syntax.{w64}
 use mir.Val.{toZ, ofZ}
-use Rattle.host.specs.Doubles.{acceptedAs, belowLimit, hostSample}
-use Rattle.host.proofs.Laws.{in-float, is-whole, below, sample-limits}
-use Rattle.host.proofs.answers.of_sample.Statement.{statement}
-use Rattle.host.proofs.answers.of_sample.Tie as tie
+use Rattle.doubles.specs.Doubles.{acceptedAs, belowLimit, hostSample}
+use Rattle.doubles.proofs.Laws.{in-float, is-whole, below, sample-limits}
+use Rattle.doubles.proofs.answers.of_sample.Statement.{statement}
+use Rattle.doubles.proofs.answers.of_sample.Tie as tie
 
 is-sample-requires : tie.Need-is-sample-requires
 is-sample-requires c κs = search needs

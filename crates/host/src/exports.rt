@@ -3,10 +3,10 @@ ghost use mathlib.Core.Path.{_≡_};
 ghost use lib.ListN.{length, getD};
 ghost use Rattle.session.specs.Run.{statusOf, writtenOf, outputOf};
 ghost use Rattle.session.specs.Text.{linesStatus, linesWritten, linesOutput};
-ghost use Rattle.host.specs.Doubles.{hostRefusal, hostValues, hostSampleIn, hostAreaIn};
-use crate::HostAnswer;
-use crate::answers::area_in;
-use crate::answers::sample_in;
+ghost use Rattle.doubles.specs.Doubles.{hostRefusal, hostValues, hostSampleIn, hostAreaIn};
+use doubles::HostAnswer;
+use doubles::answers::area_in;
+use doubles::answers::sample_in;
 use session::print::lines;
 use session::run::run;
 

@@ -8,7 +8,7 @@ use mathlib.Core.Path.{_≡_, refl, ap, sym, _∙_}
 use mathlib.Core.List.{List, [], _∷_, _++_}
 use lib.ListN.{length, take, drop, getD}
 use lib.Seq.{take-nil, take-take, drop-nil, drop-drop, drop-cons, getD-drop}
-use Rattle.layout.specs.Fields.{AreBytes, numberOf, bytesOf, numberAt}
+use Rattle.layout.specs.Fields.{AreBytes, numberOf, bytesOf, numberAt, u32At, u64At}
 
 -- ---- lists of bytes
 
@@ -63,6 +63,21 @@ number-byte s at = number-suc 0 s at ∙ add-zero (getD s at 0)
 -- the same at a place given by its distance from another
 pub number-next : (k : ℕ) (s : List ℕ) (at i : ℕ) → numberAt (suc k) s (at + i) ≡ getD s (at + i) 0 + 256 * numberAt k s (at + suc i)
 number-next k s at i = rw add-suc (number-suc k s (at + i))
+
+-- 64 bits from two words
+pub words-joined : (s : List ℕ) (at : ℕ) → u32At s at + 4294967296 * u32At s (at + 4) ≡ u64At s at
+words-joined s at =
+    omega (
+      arith,
+      number-first 7 s at,
+      number-next 6 s at 1,
+      number-next 5 s at 2,
+      number-next 4 s at 3,
+      number-first 3 s at,
+      number-next 2 s at 1,
+      number-next 1 s at 2,
+      number-next 0 s at 3,
+    )
 
 pub number-below : (k : ℕ) (s : List ℕ) (at : ℕ) → AreBytes s → numberAt k s at < 256 ^ k
 number-below zero s at b = omega arith

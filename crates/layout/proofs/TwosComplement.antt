@@ -2,7 +2,7 @@
 use Prim.Native.Nat.{ℕ, suc, _-_, _%_, _^_, _<_}
 use native.Mathlib.Omega.{arith}
 use mathlib.Core.Bool.{Bool, true, false, cond}
-use mathlib.Core.Path.{_≡_, refl}
+use mathlib.Core.Path.{_≡_, refl, ap, sym, _∙_}
 use lib.Dec.{ltb}
 use lib.IntN.{ℤ, pos, negsuc}
 use lib.Signed.{ltZ}
@@ -22,6 +22,12 @@ unfolding signed
 signed-machine w n =
     let e : bits w - 1 ≡ hbits w = omega (arith, bits-suc w) in
     rw e (sel-cond (ltb n (2 ^ hbits w)) (pos n) (negsuc (2 ^ bits w - suc n)))
+
+-- the way of `i32_of` and `i64_of` where n stands for a negative number: all ones less what is left to them, which is `!` in the code
+pub flipped-back : (w : Width) (n : ℕ) → n < 2 ^ bits w → toZ w (2 ^ bits w - 1 - (2 ^ bits w - 1 - n)) ≡ signed (bits w) n
+flipped-back w n h =
+    let e : 2 ^ bits w - 1 - (2 ^ bits w - 1 - n) ≡ n = omega arith in
+    ap (toZ w) e ∙ sym (signed-machine w n)
 
 pub bits-machine : (w : Width) (z : ℤ) → bitsOf (bits w) z ≡ ofZ w z
 unfolding bitsOf

@@ -1,7 +1,7 @@
 -- `host::exports::irga_area` meets its contract, case by case; an area event is never answered with a reading. Assumes nothing.
 use mathlib.Core.Path.{refl, sym, _∙_}
 use borrow.Author.Needs.{needs}
-use Rattle.host.proofs.Laws.{area-no-reading}
+use Rattle.doubles.proofs.Laws.{area-no-reading}
 use Rattle.host.proofs.exports.irga_area.Statement.{statement}
 use Rattle.host.proofs.exports.irga_area.Tie as tie
 

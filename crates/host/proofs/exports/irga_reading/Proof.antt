@@ -1,7 +1,7 @@
 -- `host::exports::irga_reading` meets its contract, case by case; a sample is never answered with an area. Assumes nothing.
 use mathlib.Core.Path.{refl, sym, _∙_}
 use borrow.Author.Needs.{needs}
-use Rattle.host.proofs.Laws.{sample-no-area}
+use Rattle.doubles.proofs.Laws.{sample-no-area}
 use Rattle.host.proofs.exports.irga_reading.Statement.{statement}
 use Rattle.host.proofs.exports.irga_reading.Tie as tie
 

@@ -1,9 +1,7 @@
 -- `layout::fields::i32_of` meets its contract: the machine's signed reading of its bits is `signed32`. Assumes nothing.
-use mathlib.Core.Path.{_≡_, sym}
-use Prim.Native.Nat.{_-_}
-use native.Mathlib.Omega.{arith}
+use mathlib.Core.Path.{sym}
 use mir.Syntax.{w32}
-use Rattle.layout.proofs.TwosComplement.{signed-machine}
+use Rattle.layout.proofs.TwosComplement.{signed-machine, flipped-back}
 use borrow.Author.Needs.{needs}
 use Rattle.layout.proofs.fields.i32_of.Statement.{statement}
 use Rattle.layout.proofs.fields.i32_of.Tie as tie
@@ -21,9 +19,7 @@ returns : tie.Need-returns
 returns c = sym (signed-machine w32 _)
 
 returns-2 : tie.Need-returns-2
-returns-2 c =
-    let e : 4294967295 - (4294967295 - c .before .args .n) ≡ c .before .args .n = omega arith in
-    rw e (sym (signed-machine w32 _))
+returns-2 c = flipped-back w32 (c .before .args .n) (search needs)
 
 pub i32-of-spec : {M : Type 1} → statement M
 i32-of-spec = tie.close (tie.spec cast-result sub-result cast-result-2 returns returns-2)

@@ -1,9 +1,8 @@
 -- `layout::fields::i64_of` meets its contract: the machine's signed reading of its bits is `signed64`. Assumes nothing.
-use mathlib.Core.Path.{_≡_, sym}
-use Prim.Native.Nat.{ℕ, _+_, _*_, _-_}
-use native.Mathlib.Omega.{arith}
+use Prim.Native.Nat.{_+_, _*_}
+use mathlib.Core.Path.{sym}
 use mir.Syntax.{w64}
-use Rattle.layout.proofs.TwosComplement.{signed-machine}
+use Rattle.layout.proofs.TwosComplement.{signed-machine, flipped-back}
 use borrow.Author.Needs.{needs}
 use Rattle.layout.proofs.fields.i64_of.Statement.{statement}
 use Rattle.layout.proofs.fields.i64_of.Tie as tie
@@ -27,10 +26,7 @@ returns : tie.Need-returns
 returns c = sym (signed-machine w64 _)
 
 returns-2 : tie.Need-returns-2
-returns-2 c =
-    let n : ℕ = c .before .args .low + 4294967296 * c .before .args .high in
-    let e : 18446744073709551615 - (18446744073709551615 - n) ≡ n = omega arith in
-    rw e (sym (signed-machine w64 _))
+returns-2 c = flipped-back w64 (c .before .args .low + 4294967296 * c .before .args .high) (search needs)
 
 pub i64-of-spec : {M : Type 1} → statement M
 i64-of-spec = tie.close (tie.spec mul-n add-n cast-result sub-result cast-result-2 returns returns-2)

@@ -12,8 +12,8 @@ use Rattle.format.specs.Header.{eventCount, wellFormed}
 use Rattle.ledger.specs.Claim.{Line}
 use Rattle.session.specs.Run.{outputOf}
 use Rattle.session.specs.Claim.{LineIs}
-use Rattle.host.specs.declared.HostAnswer.{HostAnswer}
-use Rattle.host.specs.Doubles.{doubleOf, Whole, hostSampleIn, hostAreaIn}
+use Rattle.doubles.specs.declared.HostAnswer.{HostAnswer}
+use Rattle.doubles.specs.Doubles.{doubleOf, Whole, hostSampleIn, hostAreaIn}
 
 -- a reading of three doubles: wet, dry and signal, each the whole number exactly. Host signal means R
 pub record ReadingGiven (r : ℕ) (wet dry : ℤ) (got : HostAnswer) : Type 0 where

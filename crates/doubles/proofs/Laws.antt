@@ -11,22 +11,27 @@ use lib.IntN.{ℤ, pos, negsuc, natAbs}
 use lib.ListN.{length}
 use lib.Ieee.{Float, binary64, ofInt, inFloat}
 use lib.Ieee.Back.{round-whole}
-use mir.Facts.{yes-leb, yes-ltb}
+use mir.Facts.{toZ-ofZ, yes-leb, yes-ltb}
+use mir.Syntax.{w64}
+use mir.Val.{SFits, toZ, ofZ}
 use Rattle.curve.proofs.Within.{both}
 use Rattle.layout.specs.declared.AnswerRecord.{AnswerRecord}
 use Rattle.layout.specs.Records.{answerAt}
-use Rattle.host.specs.declared.Doubles.{Doubles}
-use Rattle.host.specs.declared.HostAnswer.{HostAnswer}
-use Rattle.host.specs.Doubles.{doubleOf, Whole, belowLimit, doublesOf, acceptedAs, refusedWith, hostSample, hostArea, hostSampleIn, hostAreaIn}
+use Rattle.doubles.specs.declared.Doubles.{Doubles}
+use Rattle.doubles.specs.declared.HostAnswer.{HostAnswer}
+use Rattle.doubles.specs.Doubles.{doubleOf, Whole, belowLimit, doublesOf, acceptedAs, refusedWith, hostSample, hostArea, hostSampleIn, hostAreaIn}
 
 pub below : (z : ℤ) → belowLimit z ≡ true → natAbs z < 2 ^ 53
 below z e = omega (arith, ltb-true (natAbs z) _ e)
 
 -- what a cast asks
-pub in-float : (z : ℤ) → belowLimit z ≡ true → T (inFloat binary64 z)
+in-float : (z : ℤ) → belowLimit z ≡ true → T (inFloat binary64 z)
 unfolding inFloat
 in-float (pos n) e = let h : n ≤ 2 ^ 53 = omega (arith, below (pos n) e) in yes-leb h
 in-float (negsuc n) e = let h : n < 2 ^ 53 = omega (arith, below (negsuc n) e) in yes-ltb h
+
+pub cast : (z : ℤ) → SFits w64 z → belowLimit z ≡ true → T (inFloat binary64 (toZ w64 (ofZ w64 z)))
+cast z f e = rw (toZ-ofZ f) (in-float z e)
 
 -- and what it gives
 pub is-whole : (z : ℤ) → natAbs z < 2 ^ 53 → Whole (doubleOf z) z

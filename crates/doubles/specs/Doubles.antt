@@ -1,5 +1,5 @@
 -- The host's answer of document 01: a reading of three doubles, an area of one, or a refusal; from an answer record and from its
--- bytes. The contracts of `host::answers` and `host::exports` cite these definitions. Assumes nothing.
+-- bytes. The contracts of `doubles::answers` and `host::exports` cite these definitions. Assumes nothing.
 use Prim.Native.Nat.{ℕ, suc, _^_}
 use mathlib.Core.Bool.{Bool, true, false, _&&_, cond}
 use mathlib.Core.List.{List, [], _∷_}
@@ -10,8 +10,8 @@ use lib.IntN.{ℤ, pos, negsuc, natAbs}
 use lib.ListN.{length}
 use Rattle.layout.specs.declared.AnswerRecord.{AnswerRecord}
 use Rattle.layout.specs.Records.{answerAt}
-use Rattle.host.specs.declared.Doubles.{Doubles}
-use Rattle.host.specs.declared.HostAnswer.{HostAnswer}
+use Rattle.doubles.specs.declared.Doubles.{Doubles}
+use Rattle.doubles.specs.declared.HostAnswer.{HostAnswer}
 
 -- ---- whole numbers as doubles
 

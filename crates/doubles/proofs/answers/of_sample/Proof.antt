@@ -1,4 +1,4 @@
--- `host::answers::of_sample` meets its contract: a refusal, or a reading, each double exact. Assumes nothing.
+-- `doubles::answers::of_sample` meets its contract: a refusal, or a reading, each double exact. Assumes nothing.
 use mathlib.Core.Path.{_≡_, sym, _∙_}
 use mathlib.Core.Bool.{true, _&&_}
 use Prim.Native.Nat.{_<_}
@@ -8,10 +8,10 @@ use borrow.Author.Tests.{not-true, not-false}
 use lib.IntN.{pos}
 use mir.Syntax.{w64}
 use mir.Val.{toZ, ofZ}
-use Rattle.host.specs.Doubles.{acceptedAs, belowLimit, hostSample}
-use Rattle.host.proofs.Laws.{in-float, is-whole, below, sample-limits}
-use Rattle.host.proofs.answers.of_sample.Statement.{statement}
-use Rattle.host.proofs.answers.of_sample.Tie as tie
+use Rattle.doubles.specs.Doubles.{acceptedAs, belowLimit, hostSample}
+use Rattle.doubles.proofs.Laws.{cast, is-whole, below, sample-limits}
+use Rattle.doubles.proofs.answers.of_sample.Statement.{statement}
+use Rattle.doubles.proofs.answers.of_sample.Tie as tie
 
 is-sample-requires : tie.Need-is-sample-requires
 is-sample-requires c κs = search needs
@@ -30,14 +30,12 @@ sample c = sym (c .before .is-sample .ensures) ∙ not-false _ (c .if1 .left)
 int-to-float-t5 : tie.Need-int-to-float-t5
 int-to-float-t5 c =
     let a = c .before .before .before .before .args .a in
-    let x : toZ w64 (ofZ w64 (a .x)) ≡ a .x = search needs in
-    rw x (in-float (a .x) (sample-limits a (sample (c .before .before)) .0))
+    cast (a .x) (search needs) (sample-limits a (sample (c .before .before)) .0)
 
 int-to-float-t6 : tie.Need-int-to-float-t6
 int-to-float-t6 c =
     let a = c .before .before .before .before .before .before .args .a in
-    let y : toZ w64 (ofZ w64 (a .y)) ≡ a .y = search needs in
-    rw y (in-float (a .y) (sample-limits a (sample (c .before .before .before .before)) .1))
+    cast (a .y) (search needs) (sample-limits a (sample (c .before .before .before .before)) .1)
 
 int-to-float-t7 : tie.Need-int-to-float-t7
 int-to-float-t7 c = search needs

@@ -1,11 +1,11 @@
--- `host::answers::accepted` meets its contract, test by test. Assumes nothing.
+-- `doubles::answers::accepted` meets its contract, test by test. Assumes nothing.
 use borrow.Author.Needs.{needs}
 use borrow.Author.Tests.{eq-eqb, ne-eqb}
 use mir.Facts.{toZ-ofZ}
 use mir.Syntax.{w64}
 use mir.Val.{SFits}
-use Rattle.host.proofs.answers.accepted.Statement.{statement}
-use Rattle.host.proofs.answers.accepted.Tie as tie
+use Rattle.doubles.proofs.answers.accepted.Statement.{statement}
+use Rattle.doubles.proofs.answers.accepted.Tie as tie
 
 returns : tie.Need-returns
 returns c = rw (ne-eqb _ _ (c .if1 .taken))

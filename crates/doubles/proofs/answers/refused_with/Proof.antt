@@ -1,7 +1,7 @@
--- `host::answers::refused_with` meets its contract. Assumes nothing.
+-- `doubles::answers::refused_with` meets its contract. Assumes nothing.
 use borrow.Author.Tests.{eq-eqb, ne-eqb}
-use Rattle.host.proofs.answers.refused_with.Statement.{statement}
-use Rattle.host.proofs.answers.refused_with.Tie as tie
+use Rattle.doubles.proofs.answers.refused_with.Statement.{statement}
+use Rattle.doubles.proofs.answers.refused_with.Tie as tie
 
 returns : tie.Need-returns
 returns c = rw (ne-eqb _ _ (c .if1 .taken))

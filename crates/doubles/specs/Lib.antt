@@ -1,2 +1,2 @@
 pub mod Doubles
-pub mod Every
+pub mod Kept

@@ -1,12 +1,13 @@
 -- What the host gets of every line, from the bytes of a run's output. The line's answer stands there and is read as it was written
--- (`line-read` of session); its numbers are below 2^53 in size, and its case is one that its kind byte can get. Assumes nothing.
-use Prim.Native.Nat.{ℕ, _*_, _^_, _≤_, _<_}
+-- (`line-read` of session); its numbers are below 2^53 in size, and its case is one that its kind byte can get, so nothing of it is lost
+-- (`proofs/Kept.antt` of doubles). Assumes nothing.
+use Prim.Native.Nat.{ℕ, _*_, _≤_}
 use native.Mathlib.Omega.{arith}
 use mathlib.Core.Bool.{true}
 use mathlib.Core.List.{List}
-use mathlib.Core.Path.{_≡_, ap}
-use borrow.Author.Tests.{lt-ltb, ne-eqb, le-leb}
-use lib.IntN.{ℤ, pos, natAbs}
+use mathlib.Core.Path.{_≡_, refl, ap}
+use borrow.Author.Tests.{le-leb}
+use lib.IntN.{pos}
 use lib.ListN.{length, take, drop, length-take, length-drop}
 use lib.Seq.{take-take}
 use Rattle.layout.specs.Fields.{AreBytes}
@@ -19,26 +20,24 @@ use Rattle.session.specs.Run.{recordOf, outputOf}
 use Rattle.session.specs.Claim.{LineIs}
 use Rattle.ledger.proofs.Fits.{Fit}
 use Rattle.session.proofs.Claim.{line-below, line-fit, line-read, length-output}
-use Rattle.host.specs.Doubles.{belowLimit, hostSample, hostArea, hostSampleIn, hostAreaIn}
-use Rattle.host.specs.Every.{GivenAsSample, GivenAsArea, EveryReading, EveryArea}
-use Rattle.host.proofs.Laws.{is-whole}
+use Rattle.doubles.specs.Doubles.{hostSample, hostArea, hostSampleIn, hostAreaIn}
+use Rattle.claims.specs.Every.{GivenAsSample, GivenAsArea, EveryReading, EveryArea}
+use Rattle.doubles.proofs.Laws.{is-whole}
+use Rattle.doubles.proofs.Kept.{reading-kept, area-kept, refusal-kept}
 
 -- ---- by the case of the answer
-
-within-limit : (z : ℤ) → natAbs z < 2 ^ 53 → belowLimit z ≡ true
-within-limit z h = lt-ltb (natAbs z) _ (omega arith)
 
 of-sample : (kind : ℕ) (a : Answer) → Fit kind a → GivenAsSample a (hostSample (recordOf kind a))
 unfolding hostSample
 of-sample kind (Answer.Reading r wet dry) f =
     let s = f .small in
     record {
-      is = rw (f .suits, within-limit wet (s .x), within-limit dry (s .y));
+      is = reading-kept (recordOf kind (Answer.Reading r wet dry)) refl (f .suits) (s .x) (s .y);
       wet-exact = is-whole wet (s .x);
       dry-exact = is-whole dry (s .y);
       signal-exact = is-whole (pos r) (omega (arith, s .m));
     }
-of-sample kind (Answer.Refused number) f = rw (ne-eqb number 0 (λ e. omega (arith, f .suits .0)))
+of-sample kind (Answer.Refused number) f = refusal-kept (recordOf kind (Answer.Refused number)) (f .suits .0) .0
 of-sample kind Answer.Done f = rw (f .suits .0)
 of-sample kind (Answer.Zeroed q) f = rw (f .suits)
 of-sample kind (Answer.Spanned s) f = rw (f .suits)
@@ -48,8 +47,8 @@ of-area : (kind : ℕ) (a : Answer) → Fit kind a → GivenAsArea a (hostArea (
 unfolding hostArea
 of-area kind (Answer.Area n area) f =
     let s = f .small in
-    record { is = rw (f .suits, within-limit area (s .x)); exact = is-whole area (s .x) }
-of-area kind (Answer.Refused number) f = rw (ne-eqb number 0 (λ e. omega (arith, f .suits .0)))
+    record { is = area-kept (recordOf kind (Answer.Area n area)) refl (f .suits) (s .x); exact = is-whole area (s .x) }
+of-area kind (Answer.Refused number) f = refusal-kept (recordOf kind (Answer.Refused number)) (f .suits .0) .1
 of-area kind Answer.Done f = rw (f .suits .1)
 of-area kind (Answer.Zeroed q) f = rw (f .suits)
 of-area kind (Answer.Spanned s) f = rw (f .suits)

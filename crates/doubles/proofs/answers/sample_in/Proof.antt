@@ -1,13 +1,13 @@
--- `host::answers::sample_in` meets its contract, by the length. Assumes nothing.
+-- `doubles::answers::sample_in` meets its contract, by the length. Assumes nothing.
 use borrow.Author.Needs.{needs}
 use borrow.Author.Tests.{le-leb, lt-leb}
-use Rattle.host.specs.Doubles.{hostSampleIn}
-use Rattle.host.proofs.answers.sample_in.Statement.{statement}
-use Rattle.host.proofs.answers.sample_in.Tie as tie
+use Rattle.doubles.specs.Doubles.{hostSampleIn}
+use Rattle.doubles.proofs.answers.sample_in.Statement.{statement}
+use Rattle.doubles.proofs.answers.sample_in.Tie as tie
 
 returns : tie.Need-returns
 unfolding hostSampleIn
-returns c = (rw (lt-leb _ _ (c .if1 .taken)), tt)
+returns c = (rw (lt-leb 24 _ (c .if1 .taken)), tt)
 
 answer-at-requires : tie.Need-answer-at-requires
 answer-at-requires c κs = search needs
@@ -17,7 +17,7 @@ of-sample-requires c κs = search needs
 
 returns-2 : tie.Need-returns-2
 unfolding hostSampleIn
-returns-2 c = rw (le-leb _ _ (c .before .before .if1 .left), ← c .before .answer-at .ensures) (c .of-sample .ensures)
+returns-2 c = rw (le-leb 24 _ (c .before .before .if1 .left), ← c .before .answer-at .ensures) (c .of-sample .ensures)
 
 pub sample-in-spec : {M : Type 1} → statement M
 sample-in-spec = tie.close (tie.spec returns answer-at-requires of-sample-requires returns-2)

@@ -2,7 +2,7 @@
 ghost use mathlib.Core.Path.{_≡_};
 ghost use mathlib.Core.Bool.{_&&_};
 ghost use Rattle.layout.specs.Records.{answerAt};
-ghost use Rattle.host.specs.Doubles.{belowLimit, acceptedAs, refusedWith, hostSample, hostArea, Exactly, hostSampleIn, hostAreaIn};
+ghost use Rattle.doubles.specs.Doubles.{belowLimit, acceptedAs, refusedWith, hostSample, hostArea, Exactly, hostSampleIn, hostAreaIn};
 use crate::Doubles;
 use crate::HostAnswer;
 use layout::AnswerRecord;

@@ -1,8 +1,8 @@
--- `host::answers::below_limit` meets its contract. Assumes nothing.
+-- `doubles::answers::below_limit` meets its contract. Assumes nothing.
 use borrow.Author.Needs.{needs}
 use mir.Facts.{toZ-ofZ}
-use Rattle.host.proofs.answers.below_limit.Statement.{statement}
-use Rattle.host.proofs.answers.below_limit.Tie as tie
+use Rattle.doubles.proofs.answers.below_limit.Statement.{statement}
+use Rattle.doubles.proofs.answers.below_limit.Tie as tie
 
 magnitude-requires : tie.Need-magnitude-requires
 magnitude-requires c κs = search needs

@@ -2,3 +2,4 @@ pub mod Sizes
 pub mod Workable
 pub mod Numbers
 pub mod Bench
+pub mod Transcript

@@ -5,3 +5,4 @@ pub mod Integration
 pub mod Rules
 pub mod Step
 pub mod Bench
+pub mod Transcript

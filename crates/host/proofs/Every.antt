@@ -14,7 +14,7 @@ use Rattle.layout.specs.Records.{answerAt}
 use Rattle.engine.specs.declared.Answer.{Answer}
 use Rattle.engine.specs.Answer.{kindOf}
 use Rattle.format.specs.Header.{eventCount, wellFormed}
-use Rattle.ledger.specs.Claim.{Line}
+use Rattle.engine.specs.Transcript.{Line}
 use Rattle.session.specs.Run.{recordOf, outputOf}
 use Rattle.session.specs.Claim.{LineIs}
 use Rattle.session.proofs.Fits.{Fit}

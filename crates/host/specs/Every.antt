@@ -9,7 +9,7 @@ use lib.ListN.{length, take, drop}
 use Rattle.layout.specs.Fields.{AreBytes}
 use Rattle.engine.specs.declared.Answer.{Answer}
 use Rattle.format.specs.Header.{eventCount, wellFormed}
-use Rattle.ledger.specs.Claim.{Line}
+use Rattle.engine.specs.Transcript.{Line}
 use Rattle.session.specs.Run.{outputOf}
 use Rattle.session.specs.Claim.{LineIs}
 use Rattle.host.specs.declared.HostAnswer.{HostAnswer}

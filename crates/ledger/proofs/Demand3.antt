@@ -12,7 +12,8 @@ use Rattle.engine.specs.declared.State.{State}
 use Rattle.engine.specs.declared.Entry.{Entry}
 use Rattle.engine.specs.Rules.{rules, fresh}
 use Rattle.engine.specs.Step.{workable, stepOf}
-use Rattle.ledger.specs.Claim.{transcript, leaves, Holds, Demand3, Reachable}
+use Rattle.engine.specs.Transcript.{transcript, leaves}
+use Rattle.ledger.specs.Claim.{Holds, Demand3, Reachable}
 use Rattle.ledger.proofs.Tallies.{Keeps, idle}
 use Rattle.ledger.proofs.Lines.{Settings, workable-is, ledgerAt, entry-good}
 

@@ -7,7 +7,7 @@ use Rattle.layout.specs.Fields.{signed}
 use Rattle.layout.specs.Records.{eventOf}
 use Rattle.engine.specs.declared.Entry.{Entry}
 use Rattle.engine.specs.Rules.{fresh}
-use Rattle.ledger.specs.Claim.{transcript}
+use Rattle.engine.specs.Transcript.{transcript}
 use Rattle.ledger.specs.Example.{exampleSheets, exampleEntries, exampleRows}
 use Rattle.ledger.proofs.Example.{example}
 use Rattle.format.specs.Header.{wellFormed}

@@ -11,7 +11,8 @@ use Rattle.layout.specs.Fields.{AreBytes}
 use Rattle.layout.specs.Records.{recordAt, eventAt, answerAt, answerBytes}
 use Rattle.engine.specs.Rules.{fresh}
 use Rattle.engine.specs.Sheets.{sheetsHeld}
-use Rattle.ledger.specs.Claim.{Line, transcript, Demand3}
+use Rattle.engine.specs.Transcript.{Line, transcript}
+use Rattle.ledger.specs.Claim.{Demand3}
 use Rattle.format.specs.Header.{sheetCount, eventCount, firstEvent, wellFormed, sheetsOf}
 use Rattle.format.specs.Entries.{entryOf}
 use Rattle.session.specs.Run.{recordOf, statusOf, writtenOf, outputOf}

@@ -1,7 +1,6 @@
 pub mod Fits
+pub mod Transcript
+pub mod Emitting
 pub mod Turn
 pub mod Outcome
 pub mod Printing
-pub mod Transcript
-pub mod Claim
-pub mod Example

@@ -9,11 +9,12 @@ use lib.ListN.{length, take, drop}
 use Rattle.layout.specs.Fields.{AreBytes}
 use Rattle.engine.specs.declared.Answer.{Answer}
 use Rattle.format.specs.Header.{eventCount, wellFormed}
-use Rattle.ledger.specs.Claim.{Line}
-use Rattle.session.specs.Run.{outputOf}
-use Rattle.session.specs.Claim.{LineIs}
+use Rattle.engine.specs.Transcript.{Line}
+use Rattle.session.specs.declared.forms.Form.{Form}
+use Rattle.session.specs.Run.{FillsAs}
 use Rattle.doubles.specs.declared.HostAnswer.{HostAnswer}
 use Rattle.doubles.specs.Doubles.{doubleOf, Whole, hostSampleIn, hostAreaIn}
+use Rattle.claims.specs.Claim.{LineIs}
 
 -- a reading of three doubles: wet, dry and signal, each the whole number exactly. Host signal means R
 pub record ReadingGiven (r : ℕ) (wet dry : ℤ) (got : HostAnswer) : Type 0 where
@@ -46,12 +47,13 @@ GivenAsArea (Answer.Spanned s) got = got ≡ HostAnswer.Refused 11
 GivenAsArea (Answer.Reading r wet dry) got = got ≡ HostAnswer.Refused 11
 
 -- of every file of well-formed bytes, every output that is long enough and every line of the file's transcript: what the host gets from
--- the output's bytes, lent from byte 24 i on, n of them and at least 24, goes by the line's answer
+-- the bytes that a run leaves there, lent from byte 24 i on, n of them and at least 24, goes by the line's answer
 abbrev pub EveryLine : (List ℕ → HostAnswer) → (Answer → HostAnswer → Type 0) → Type 0
 EveryLine hostIn given =
     (file old : List ℕ) → AreBytes file → wellFormed file ≡ true → 24 * eventCount file ≤ length old
+    → (status written : ℕ) (out : List ℕ) → FillsAs Form.Records file old status written out
     → (i : ℕ) (line : Line) → LineIs file i line → (n : ℕ) → 24 ≤ n
-    → given (line .answer) (hostIn (take n (drop (24 * i) (outputOf file old))))
+    → given (line .answer) (hostIn (take n (drop (24 * i) out)))
 
 abbrev pub EveryReading : Type 0
 EveryReading = EveryLine hostSampleIn GivenAsSample

@@ -1,1 +1,3 @@
+pub mod Claim
+pub mod Example
 pub mod Every

@@ -3,3 +3,4 @@ pub mod Inversion
 pub mod Cases
 pub mod Laws
 pub mod Bench
+pub mod Transcript

@@ -1,8 +1,8 @@
 // The functions that C calls. A slice is a pointer and a length; none of them asks anything of what it is lent.
 ghost use mathlib.Core.Path.{_≡_};
-ghost use lib.ListN.{length, getD};
-ghost use Rattle.session.specs.Run.{statusOf, writtenOf, outputOf};
-ghost use Rattle.session.specs.Text.{linesStatus, linesWritten, linesOutput};
+ghost use lib.ListN.{getD};
+ghost use Rattle.session.specs.declared.forms.Form.{Form};
+ghost use Rattle.session.specs.Run.{FillsAs};
 ghost use Rattle.doubles.specs.Doubles.{hostRefusal, hostValues, hostSampleIn, hostAreaIn};
 use doubles::HostAnswer;
 use doubles::answers::area_in;
@@ -14,9 +14,7 @@ use session::run::run;
 // bytes that it wrote, 0 with a refusal.
 #[no_mangle]
 pub extern "C" fn irga_run(file: &[u8], out: &mut [u8], written: &mut usize) -> u8
-    ensures { λ r. ⌜ r ≡ statusOf (now (file .entry)) (length (now (out .entry))) ⌝ }
-    ensures { λ _. ⌜ now (written .exit) ≡ writtenOf (now (file .entry)) (length (now (out .entry))) ⌝ }
-    ensures { λ _. ⌜ now (out .exit) ≡ outputOf (now (file .entry)) (now (out .entry)) ⌝ }
+    ensures { λ r. ⌜ FillsAs Form.Records (now (file .entry)) (now (out .entry)) r (now (written .exit)) (now (out .exit)) ⌝ }
 {
     let ran = run(file, out);
     *written = ran.written;
@@ -27,9 +25,7 @@ pub extern "C" fn irga_run(file: &[u8], out: &mut [u8], written: &mut usize) -> 
 // length of the text, 0 with a refusal.
 #[no_mangle]
 pub extern "C" fn irga_lines(file: &[u8], out: &mut [u8], written: &mut usize) -> u8
-    ensures { λ r. ⌜ r ≡ linesStatus (now (file .entry)) (length (now (out .entry))) ⌝ }
-    ensures { λ _. ⌜ now (written .exit) ≡ linesWritten (now (file .entry)) (length (now (out .entry))) ⌝ }
-    ensures { λ _. ⌜ now (out .exit) ≡ linesOutput (now (file .entry)) (now (out .entry)) ⌝ }
+    ensures { λ r. ⌜ FillsAs Form.Lines (now (file .entry)) (now (out .entry)) r (now (written .exit)) (now (out .exit)) ⌝ }
 {
     let put = lines(file, out);
     *written = put.written;

@@ -1,6 +1,7 @@
 pub mod Numbers
 pub mod TwosComplement
 pub mod Splices
+pub mod Lent
 pub mod Words
 pub mod AsCoded
 pub mod RoundTrips

@@ -10,9 +10,10 @@ use lib.IntN.{ℤ}
 use Rattle.engine.specs.declared.State.{State}
 use Rattle.engine.specs.declared.Entry.{Entry}
 use Rattle.engine.specs.Rules.{rules, fresh}
+use Rattle.engine.specs.Transcript.{transcript, leaves}
 use Rattle.engine.proofs.Laws.{by-rules}
 use Rattle.ledger.specs.Ledger.{Ledger, freshLedger}
-use Rattle.ledger.specs.Claim.{transcript, leaves, Holds, Demand3, Reachable}
+use Rattle.ledger.specs.Claim.{Holds, Demand3, Reachable}
 use Rattle.ledger.proofs.Tallies.{idle}
 use Rattle.ledger.proofs.Lines.{Settings, workable-is, Together, entry-good}
 

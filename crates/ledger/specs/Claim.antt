@@ -23,28 +23,9 @@ use Rattle.engine.specs.Answer.{refusalOf, mOf, xOf, yOf}
 use Rattle.sampling.specs.Sample.{airOf, referenceAir}
 use Rattle.engine.specs.Rules.{rules, fresh, answered}
 use Rattle.engine.specs.Step.{workable, stepOf}
+use Rattle.engine.specs.Transcript.{Line, transcript, leaves}
 use Rattle.ledger.specs.Ledger.{Ledger, freshLedger, exactValue, ledgerStep}
 use Rattle.ledger.specs.Wets.{wetsStep}
-
--- ---- the transcript of a list: at each event the state before, the entry, the answer and the state after
-
-pub record Line : Type 0 where
-  pub before : State
-  pub entry : Entry
-  pub answer : Answer
-  pub after : State
-
--- each event gets the state that the last one left
-abbrev pub transcript : List ℕ → State → List Entry → List Line
-transcript sheets st [] = []
-transcript sheets st (entry ∷ entries) =
-    record { before = st; entry = entry; answer = stepOf sheets st entry .answer; after = stepOf sheets st entry .state }
-    ∷ transcript sheets (stepOf sheets st entry .state) entries
-
--- the state that a list leaves
-abbrev pub leaves : List ℕ → State → List Entry → State
-leaves sheets st [] = st
-leaves sheets st (entry ∷ entries) = leaves sheets (stepOf sheets st entry .state) entries
 
 -- ---- what holds of an answer
 

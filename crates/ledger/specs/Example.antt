@@ -9,10 +9,9 @@ use Rattle.layout.specs.declared.AnswerRecord.{AnswerRecord}
 use Rattle.engine.specs.declared.Event.{Event}
 use Rattle.engine.specs.declared.Entry.{Entry}
 use Rattle.sheets.specs.declared.Lookup.{Lookup}
-use Rattle.engine.specs.Answer.{refusalOf, mOf, xOf, yOf, kindOf}
 use Rattle.sheets.specs.Sheets.{lookupOf}
 use Rattle.engine.specs.Rules.{fresh}
-use Rattle.ledger.specs.Claim.{Line, transcript}
+use Rattle.engine.specs.Transcript.{transcript, recordOf}
 
 -- four bytes, the lowest first
 abbrev pub word : ℕ → ℕ → ℕ → ℕ → List ℕ
@@ -51,17 +50,6 @@ abbrev pub exampleEntries : List Entry
 exampleEntries = exampleLoad ∷ exampleReference ∷ exampleSample ∷ exampleArea ∷ []
 
 -- what is printed of an event after its ordinal, its place in the list: kind, refusal, m, x, y
-abbrev pub rowOf : Line → AnswerRecord
-rowOf l =
-    record {
-      kind = kindOf (l .entry);
-      refusal = refusalOf (l .answer);
-      m = mOf (l .answer);
-      x = xOf (l .answer);
-      y = yOf (l .answer);
-    }
-
--- the same in numbers
 abbrev pub row : ℕ → ℕ → ℕ → ℕ → ℕ → AnswerRecord
 row kind refusal m x y = record { kind = kind; refusal = refusal; m = m; x = pos x; y = pos y }
 
@@ -79,4 +67,4 @@ pub record Example : Type 0 where
   -- the bytes say the sheet of the bench
   pub sheet : lookupOf exampleSheets 0 ≡ Lookup.Found benchSheet
   -- the answers are as printed
-  pub rows : map rowOf (transcript exampleSheets fresh exampleEntries) ≡ exampleRows
+  pub rows : map recordOf (transcript exampleSheets fresh exampleEntries) ≡ exampleRows

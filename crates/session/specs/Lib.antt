@@ -1,5 +1,4 @@
+pub mod Transcript
+pub mod Forms
 pub mod Run
 pub mod Text
-pub mod Transcript
-pub mod Claim
-pub mod Example

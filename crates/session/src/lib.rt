@@ -1,3 +1,4 @@
 // A session file run: its events answered in turn, as records and as lines.
+pub mod forms;
 pub mod print;
 pub mod run;

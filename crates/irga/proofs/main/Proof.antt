@@ -2,6 +2,7 @@
 use native.Mathlib.Omega.{arith}
 use lib.ListN.{length-take}
 use borrow.Author.Needs.{needs}
+use Rattle.layout.proofs.Lent.{puts-length}
 use Rattle.irga.proofs.main.Statement.{statement}
 use Rattle.irga.proofs.main.Tie as tie
 
@@ -21,10 +22,10 @@ print-requires : tie.Need-print-requires
 print-requires c κs = search needs
 
 array-share-prefix-text : tie.Need-array-share-prefix-text
-array-share-prefix-text c = c .print .ensures .2
+array-share-prefix-text c = let p = c .print .ensures in omega (arith, p .room, puts-length p)
 
 slice-aggregate-write-all : tie.Need-slice-aggregate-write-all
-slice-aggregate-write-all c = let h = c .before .print .ensures .2 in simp length-take (omega arith)
+slice-aggregate-write-all c = let p = c .before .print .ensures in simp length-take (omega (arith, p .room, puts-length p))
 
 write-all-requires : tie.Need-write-all-requires
 write-all-requires c κs = search needs

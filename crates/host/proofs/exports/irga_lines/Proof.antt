@@ -10,7 +10,7 @@ same-length : tie.Need-same-length
 same-length c = search needs
 
 returns : tie.Need-returns
-returns c = let e = c .before .before .lines .ensures in (e .0, (e .1 .0, e .1 .1 .0))
+returns c = c .before .before .lines .ensures
 
 pub irga-lines-spec : {M : Type 1} → statement M
 irga-lines-spec = tie.close (tie.spec lines-requires same-length returns)

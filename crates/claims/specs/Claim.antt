@@ -1,26 +1,24 @@
 -- The claim for a file: of any bytes whatever and any lent output, what a run leaves there and answers with, and demand 3 of the events
 -- that it answers. `proofs/Claim.antt` proves it. Assumes nothing.
-use Prim.Native.Nat.{ℕ, _+_, _*_, _≤_, _<_}
+use Prim.Native.Nat.{ℕ, zero, suc, _+_, _*_, _≤_, _<_}
 use mathlib.Core.Bool.{true, false}
-use mathlib.Core.List.{List}
+use mathlib.Core.List.{List, [], _++_}
 use mathlib.Core.Option.{some}
 use mathlib.Core.Path.{_≡_}
 use lib.ListN.{length, drop, getElem?}
 use Rattle.layout.specs.declared.EventRecord.{EventRecord}
 use Rattle.layout.specs.Fields.{AreBytes}
 use Rattle.layout.specs.Records.{recordAt, eventAt, answerAt, answerBytes}
-use Rattle.engine.specs.Rules.{fresh}
+use Rattle.text.specs.Line.{lineOf}
 use Rattle.sheets.specs.Sheets.{sheetsHeld}
-use Rattle.ledger.specs.Claim.{Line, transcript, Demand3}
+use Rattle.engine.specs.Transcript.{Line, recordWith}
+use Rattle.ledger.specs.Claim.{Demand3}
 use Rattle.format.specs.Header.{sheetCount, eventCount, firstEvent, wellFormed, sheetsOf}
 use Rattle.format.specs.Entries.{entryOf}
-use Rattle.session.specs.Run.{recordOf, statusOf, writtenOf, outputOf}
-use Rattle.session.specs.Text.{linesFrom, linesOf}
-use Rattle.session.specs.Transcript.{entriesOf, recordsOf}
-
--- the transcript of a file: the engine's over the file's entries, under the file's sheets, from a fresh engine
-abbrev pub transcriptOf : List ℕ → List Line
-transcriptOf file = transcript (sheetsOf file) fresh (entriesOf file)
+use Rattle.session.specs.declared.forms.Form.{Form}
+use Rattle.session.specs.Transcript.{entriesOf, transcriptOf}
+use Rattle.session.specs.Run.{FillsAs}
+use Rattle.session.specs.Text.{linesOf}
 
 -- the line is the transcript's line i, counted from 0; past the last one there is none
 abbrev pub LineIs : List ℕ → ℕ → Line → Type 0
@@ -36,8 +34,8 @@ pub record EventAnswered (file out : List ℕ) (i : ℕ) : Type 0 where
   pub line : Line
   pub is : LineIs file i line
   pub entry : line .entry ≡ entryOf (eventIn file i)
-  pub bytes : recordAt out (24 * i) ≡ answerBytes (recordOf (eventIn file i .kind) (line .answer))
-  pub says : answerAt out (24 * i) ≡ recordOf (eventIn file i .kind) (line .answer)
+  pub bytes : recordAt out (24 * i) ≡ answerBytes (recordWith (eventIn file i .kind) (line .answer))
+  pub says : answerAt out (24 * i) ≡ recordWith (eventIn file i .kind) (line .answer)
 
 -- a file that is answered: status 0, 24 bytes written for each event, all sheets of the header found, demand 3 of its sheets and entries,
 -- one line for each event, each event answered, and the bytes after the answers as they were. `old` is the output before the run
@@ -64,12 +62,20 @@ pub record FileHolds (file old : List ℕ) (status written : ℕ) (out : List �
   pub short : wellFormed file ≡ true → length old < 24 * eventCount file → Kept 13 old status written out
   pub long : wellFormed file ≡ true → 24 * eventCount file ≤ length old → Answered file old status written out
 
--- the claim: it holds of what a run returns and leaves (the contracts of `session::run::run` and `irga_run`), for any bytes whatever
+-- the claim: it holds of whatever a run returns and leaves (the contracts of `session::run::run` and `irga_run`), for any bytes whatever
 abbrev pub EveryFile : Type 0
 EveryFile =
-    (file old : List ℕ) → AreBytes file
-    → FileHolds file old (statusOf file (length old)) (writtenOf file (length old)) (outputOf file old)
+    (file old : List ℕ) → AreBytes file → (status written : ℕ) (out : List ℕ) → FillsAs Form.Records file old status written out
+    → FileHolds file old status written out
 
--- and the lines, printed or put into a buffer, are those of the same answers, each with its entry's kind byte, ordinals from 1
+-- the printed lines of so many answer records from a byte offset on
+abbrev pub printedFrom : ℕ → List ℕ → ℕ → ℕ → List ℕ
+printedFrom ordinal out at zero = []
+printedFrom ordinal out at (suc count) = lineOf ordinal (answerAt out at) ++ printedFrom (ordinal + 1) out (at + 24) count
+
+-- and the lines, printed or put into a buffer, are those of the very records that a run leaves, ordinals from 1
 abbrev pub EveryText : Type 0
-EveryText = (file : List ℕ) → linesOf file ≡ linesFrom 1 (recordsOf (transcriptOf file))
+EveryText =
+    (file old : List ℕ) → AreBytes file → wellFormed file ≡ true → 24 * eventCount file ≤ length old
+    → (status written : ℕ) (out : List ℕ) → FillsAs Form.Records file old status written out
+    → linesOf file ≡ printedFrom 1 out 0 (eventCount file)

@@ -1,0 +1,51 @@
+-- Document 01's example file prints the lines that the paper shows: its bytes say the sheet and the entries of the example, which the
+-- ledger's crate has answered, and the lines of those answers are computed. Assumes nothing.
+use Prim.Native.Nat.{ℕ, _+_}
+use mathlib.Core.Bool.{true}
+use mathlib.Core.List.{List, [], _∷_, _++_, map}
+use mathlib.Core.Path.{_≡_, refl, ap, _∙_}
+use Rattle.layout.specs.declared.AnswerRecord.{AnswerRecord}
+use Rattle.layout.specs.Fields.{signed}
+use Rattle.layout.specs.Records.{eventOf}
+use Rattle.text.specs.Line.{decimal, signedDecimal, lineOf}
+use Rattle.engine.specs.declared.Entry.{Entry}
+use Rattle.engine.specs.Rules.{fresh}
+use Rattle.engine.specs.Transcript.{Line, transcript, recordOf}
+use Rattle.ledger.specs.Example.{exampleSheets, exampleEntries, exampleRows}
+use Rattle.ledger.proofs.Example.{example}
+use Rattle.format.specs.Header.{wellFormed}
+use Rattle.format.specs.Entries.{entryOf}
+use Rattle.session.specs.declared.forms.Form.{Form}
+use Rattle.session.specs.Transcript.{entriesOf, transcriptOf}
+use Rattle.session.specs.Forms.{emittedFrom}
+use Rattle.session.specs.Text.{printedOf}
+use Rattle.claims.specs.Example.{exampleFile, exampleText, ExamplePrinted}
+
+well : wellFormed exampleFile ≡ true
+unfolding wellFormed
+well = refl
+
+entries : entriesOf exampleFile ≡ exampleEntries
+unfolding signed eventOf entryOf
+entries = refl
+
+records : map recordOf (transcriptOf exampleFile) ≡ exampleRows
+records = ap (λ (es : List Entry). map recordOf (transcript exampleSheets fresh es)) entries ∙ example .rows
+
+-- the lines go by the records alone
+linesFrom : ℕ → List AnswerRecord → List ℕ
+linesFrom ordinal [] = []
+linesFrom ordinal (a ∷ rest) = lineOf ordinal a ++ linesFrom (ordinal + 1) rest
+
+by-records : (ordinal : ℕ) (ls : List Line) → emittedFrom Form.Lines ordinal ls ≡ linesFrom ordinal (map recordOf ls)
+unfolding linesFrom
+by-records ordinal [] = refl
+by-records ordinal (l ∷ ls) = ap (λ (rest : List ℕ). lineOf ordinal (recordOf l) ++ rest) (by-records (ordinal + 1) ls)
+
+lines : linesFrom 1 exampleRows ≡ exampleText
+unfolding linesFrom decimal signedDecimal lineOf
+lines = refl
+
+pub example-printed : ExamplePrinted
+unfolding printedOf
+example-printed = rw well (by-records 1 (transcriptOf exampleFile) ∙ ap (linesFrom 1) records ∙ lines)

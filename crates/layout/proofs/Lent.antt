@@ -1,0 +1,36 @@
+-- Bytes put into a lent buffer: one piece after the other is both at once, and the buffer keeps its length. And the two ways in which
+-- a tool ends that fills one. Assumes nothing.
+use Prim.Native.Nat.{ℕ, _≤_}
+use native.Mathlib.Omega.{arith}
+use mathlib.Core.List.{List, [], _++_}
+use mathlib.Core.Path.{_≡_, refl, sym, _∙_}
+use lib.ListN.{length, length-append, length-take, length-drop}
+use Rattle.layout.specs.Lent.{Puts, Fills}
+use Rattle.layout.proofs.Splices.{splice-none, next}
+
+pub puts-none : (old : List ℕ) (at : ℕ) → at ≤ length old → Puts old at [] old at
+puts-none old at h = record { ends = omega arith; room = h; stands = sym (splice-none old at) }
+
+module _ {old : List ℕ} {at : ℕ} {bytes out : List ℕ} {past : ℕ} (p : Puts old at bytes out past) where
+  pub puts-length : length out ≡ length old
+  puts-length =
+      let e = p .ends in let r = p .room in
+      rw (p .stands) (simp (length-append, length-take, length-drop) (omega arith))
+
+  -- another piece, put where this one ends
+  pub puts-both : {more out′ : List ℕ} {past′ : ℕ} → Puts out past more out′ past′ → Puts old at (bytes ++ more) out′ past′
+  puts-both {more} q =
+      let e = p .ends in let r = p .room in
+      record {
+        ends = omega (arith, q .ends, length-append bytes more);
+        room = omega (arith, q .room, puts-length);
+        stands = q .stands ∙ rw (p .stands, e) (next old bytes more at (length bytes) refl (omega arith));
+      }
+
+-- ---- how a tool ends that fills a buffer, as its status says
+module _ {due : ℕ} {bytes old : List ℕ} {status : ℕ} (e : status ≡ due) where
+  pub turned-away : (status ≡ 0 → ⊥) → Fills due bytes old status 0 old
+  turned-away h = record { ended = e; filled = λ z. absurd (h (e ∙ z)); kept = λ n. (refl, refl) }
+
+  pub filled : {written : ℕ} {out : List ℕ} → status ≡ 0 → Puts old 0 bytes out written → Fills due bytes old status written out
+  filled z p = record { ended = e; filled = λ d. p; kept = λ n. absurd (n (sym e ∙ z)) }

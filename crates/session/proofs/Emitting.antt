@@ -1,0 +1,37 @@
+-- What is put of an event in each form, with the record as the code makes it: an entry has its record's kind byte. And the room that a
+-- list of events asks. Assumes nothing.
+use Prim.Native.Nat.{ℕ, _*_, _≤_}
+use native.Mathlib.Omega.{arith}
+use mathlib.Core.Path.{_≡_}
+use mathlib.Core.List.{List, [], _∷_}
+use lib.ListN.{length}
+use Rattle.layout.specs.declared.AnswerRecord.{AnswerRecord}
+use Rattle.layout.specs.declared.EventRecord.{EventRecord}
+use Rattle.layout.specs.Records.{answerBytes}
+use Rattle.text.specs.Line.{lineOf}
+use Rattle.engine.specs.declared.State.{State}
+use Rattle.engine.specs.declared.Stepped.{Stepped}
+use Rattle.engine.specs.Transcript.{Line, lineAt, recordOf, recordWith}
+use Rattle.format.specs.Entries.{entryOf}
+use Rattle.session.specs.declared.forms.Form.{Form}
+use Rattle.session.specs.Forms.{emitted, roomOf, roomFrom}
+use Rattle.session.proofs.Transcript.{kind-kept}
+
+module _ (st : State) (event : EventRecord) (next : Stepped) {a : AnswerRecord} (e : a ≡ recordWith (event .kind) (next .answer)) where
+  record-is : recordOf (lineAt st (entryOf event) next) ≡ a
+  record-is = rw (e, kind-kept event)
+
+  pub records-are : {form : Form} (ordinal : ℕ) → form ≡ Form.Records → emitted form ordinal (lineAt st (entryOf event) next) ≡ answerBytes a
+  records-are ordinal f = rw (f, record-is)
+
+  pub lines-are : {form : Form} (ordinal : ℕ) → form ≡ Form.Lines → emitted form ordinal (lineAt st (entryOf event) next) ≡ lineOf ordinal a
+  lines-are ordinal f = rw (f, record-is)
+
+-- as much for each event
+pub room-all : (form : Form) (ls : List Line) → roomFrom form ls ≡ roomOf form * length ls
+room-all form [] = omega arith
+room-all form (l ∷ ls) = omega (arith, room-all form ls)
+
+pub room-most : (form : Form) → roomOf form ≤ 72
+room-most Form.Records = omega arith
+room-most Form.Lines = omega arith

@@ -1,0 +1,79 @@
+-- `session::forms::emit` meets its contract, form by form. Assumes nothing.
+use native.Mathlib.Omega.{arith}
+use borrow.Author.Needs.{needs}
+use Rattle.layout.proofs.RoundTrips.{length-answer}
+use Rattle.session.proofs.Emitting.{records-are, lines-are}
+use Rattle.session.proofs.forms.emit.Statement.{statement}
+use Rattle.session.proofs.forms.emit.Tie as tie
+
+record-of-requires : tie.Need-record-of-requires
+record-of-requires c κs = search needs
+
+enum-told : tie.Need-enum-told
+enum-told c = search needs
+
+put-answer-requires : tie.Need-put-answer-requires
+put-answer-requires c κs = rw (c .before .enum-told .given .1) at (c .before .before .before .before .before .pre .1)
+
+add-result : tie.Need-add-result
+add-result c = search needs
+
+enum-told-2 : tie.Need-enum-told-2
+enum-told-2 c = search needs
+
+cast-put-line : tie.Need-cast-put-line
+cast-put-line c = search needs
+
+add-put-line : tie.Need-add-put-line
+add-put-line c = search needs
+
+put-line-requires : tie.Need-put-line-requires
+put-line-requires c κs = rw (c .before .enum-told2 .given .1) at (c .before .before .before .before .before .pre .1)
+
+same-length : tie.Need-same-length
+same-length c = search needs
+
+returns : tie.Need-returns
+returns c =
+    let d = c .before .before in
+    let e = d .before .before .enum-told .given .1 in
+    let r = d .before .before .before .before .record-of in
+    let s = d .before .before .before .before .before .before in
+    let fit = rw e at (s .pre .1) in (
+      rw (records-are (s .args .before) (s .args .event) (s .args .next) (r .ensures) _ e)
+          (record { ends = omega (arith, length-answer (r .result)); room = fit; stands = d .put-answer .ensures }),
+      rw e (omega arith),
+    )
+
+same-length-2 : tie.Need-same-length-2
+same-length-2 c = search needs
+
+returns-2 : tie.Need-returns-2
+returns-2 c =
+    let d = c .before .before in
+    let e = d .before .before .enum-told2 .given .1 in
+    let r = d .before .before .before .before .record-of in
+    let s = d .before .before .before .before .before .before in
+    let fit = rw e at (s .pre .1) in
+    let p = d .put-line .ensures in (
+      rw (lines-are (s .args .before) (s .args .event) (s .args .next) (r .ensures) _ e)
+          (record { ends = p .0; room = omega (arith, fit, p .0, p .2); stands = p .1 }),
+      rw e (omega (arith, p .0, p .2)),
+    )
+
+pub emit-spec : {M : Type 1} → statement M
+emit-spec =
+    tie.close
+    (tie.spec
+    record-of-requires
+    enum-told
+    put-answer-requires
+    add-result
+    enum-told-2
+    cast-put-line
+    add-put-line
+    put-line-requires
+    same-length
+    returns
+    same-length-2
+    returns-2)

@@ -1,0 +1,32 @@
+-- What is put of a session file, in each form: for each event, in turn, the 24 bytes of its answer record, or its printed line. A form
+-- goes by the lines of the transcript, each with its ordinal. Assumes nothing.
+use Prim.Native.Nat.{ℕ, _+_}
+use mathlib.Core.List.{List, [], _∷_, _++_}
+use Rattle.layout.specs.Records.{answerBytes}
+use Rattle.text.specs.Line.{lineOf, lineRoom}
+use Rattle.engine.specs.Transcript.{Line, recordOf}
+use Rattle.session.specs.declared.forms.Form.{Form}
+use Rattle.session.specs.Transcript.{transcriptOf}
+
+-- what is put of one event
+abbrev pub emitted : Form → ℕ → Line → List ℕ
+emitted Form.Records ordinal l = answerBytes (recordOf l)
+emitted Form.Lines ordinal l = lineOf ordinal (recordOf l)
+
+-- the room that holds it
+abbrev pub roomOf : Form → ℕ
+roomOf Form.Records = 24
+roomOf Form.Lines = lineRoom
+
+-- of a list of lines, the first with the ordinal as given
+abbrev pub emittedFrom : Form → ℕ → List Line → List ℕ
+emittedFrom form ordinal [] = []
+emittedFrom form ordinal (l ∷ ls) = emitted form ordinal l ++ emittedFrom form (ordinal + 1) ls
+
+abbrev pub roomFrom : Form → List Line → ℕ
+roomFrom form [] = 0
+roomFrom form (l ∷ ls) = roomOf form + roomFrom form ls
+
+-- of a file, ordinals from 1
+abbrev pub emittedOf : Form → List ℕ → List ℕ
+emittedOf form file = emittedFrom form 1 (transcriptOf file)

@@ -1,7 +1,4 @@
-pub mod Numbers
-pub mod TwosComplement
 pub mod Splices
-pub mod Words
 pub mod AsCoded
 pub mod RoundTrips
 pub mod Examples

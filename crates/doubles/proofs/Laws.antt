@@ -54,25 +54,21 @@ any P true true x n h k l = h
 any P true false x n h k l = k
 any P false t x n h k l = l
 
-abbrev NoArea : HostAnswer → Type 0
-NoArea (HostAnswer.Reading d) = Unit
-NoArea (HostAnswer.Area v) = ⊥
-NoArea (HostAnswer.Refused number) = Unit
+-- a type for a reading, and one for an area
+abbrev By : Type 0 → Type 0 → HostAnswer → Type 0
+By reading area (HostAnswer.Reading d) = reading
+By reading area (HostAnswer.Area v) = area
+By reading area (HostAnswer.Refused number) = Unit
 
 pub sample-no-area : (b : List ℕ) {v : Float} → hostSampleIn b ≡ HostAnswer.Area v → ⊥
 unfolding hostSample hostSampleIn
 sample-no-area b e =
     let a = answerAt b 0 in
-    subst NoArea e
-    (any NoArea (leb 24 (length b)) (acceptedAs 6 a && belowLimit (a .y)) (HostAnswer.Reading (doublesOf a)) (refusedWith a) tt tt tt)
-
-abbrev NoReading : HostAnswer → Type 0
-NoReading (HostAnswer.Reading d) = ⊥
-NoReading (HostAnswer.Area v) = Unit
-NoReading (HostAnswer.Refused number) = Unit
+    subst (By Unit ⊥) e
+    (any (By Unit ⊥) (leb 24 (length b)) (acceptedAs 6 a && belowLimit (a .y)) (HostAnswer.Reading (doublesOf a)) (refusedWith a) tt tt tt)
 
 pub area-no-reading : (b : List ℕ) {d : Doubles} → hostAreaIn b ≡ HostAnswer.Reading d → ⊥
 unfolding hostArea hostAreaIn
 area-no-reading b e =
     let a = answerAt b 0 in
-    subst NoReading e (any NoReading (leb 24 (length b)) (acceptedAs 9 a) (HostAnswer.Area (doubleOf (a .x))) (refusedWith a) tt tt tt)
+    subst (By ⊥ Unit) e (any (By ⊥ Unit) (leb 24 (length b)) (acceptedAs 9 a) (HostAnswer.Area (doubleOf (a .x))) (refusedWith a) tt tt tt)

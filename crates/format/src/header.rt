@@ -3,7 +3,7 @@ ghost use mathlib.Core.Path.{_≡_};
 ghost use Prim.Native.Nat.{_≤_};
 ghost use lib.ListN.{length};
 ghost use Rattle.format.specs.Header.{sheetCount, eventCount, firstEvent, wellFormed};
-use layout::fields::u32_at;
+use fields::u32_at;
 
 // How many sheets the header says.
 pub fn sheet_count(file: &[u8]) -> usize

@@ -1,5 +1,4 @@
 // The records of document 01's session file as bytes: numbers at fixed places, the lowest byte first, 24 bytes a record.
-pub mod fields;
 pub mod records;
 
 // A sheet as the file has it, whether or not a sheet may be so.

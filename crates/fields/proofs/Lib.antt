@@ -1,0 +1,4 @@
+pub mod Numbers
+pub mod TwosComplement
+pub mod Splices
+pub mod Words

@@ -38,10 +38,10 @@ module _ (t : ℕ) where
   add-put-byte c = search needs
 
   put-byte-requires : lts.Need-put-byte-requires (claims t) (here t) self.Post
-  put-byte-requires c κs = omega (arith, one-long (c .before .before .before .args .n) (c .before .if1 .taken))
+  put-byte-requires c κs = omega (arith, one-long (c .before .before .before .args .n) (omega arith))
 
   put-decimal-requires : lts.Need-put-decimal-requires (claims t) (here t) self.Post
-  put-decimal-requires c κs = let e = one-longer (c .before .before .before .args .n) (c .before .if1 .left) (omega arith) in (omega arith, omega arith)
+  put-decimal-requires c κs = let e = one-longer (c .before .before .before .args .n) (omega arith) (omega arith) in (omega arith, omega arith)
 
   cast-put-byte-2 : lts.Need-cast-put-byte-2 (claims t) (here t) self.Post
   cast-put-byte-2 c = search needs
@@ -59,7 +59,7 @@ module _ (t : ℕ) where
   same-length c = search needs
 
   returns : lts.Need-returns (claims t) (here t) self.Post
-  returns c = rw (one-digit _ (c .before .before .before .before .if1 .taken)) (c .before .before .put-byte .ensures)
+  returns c = rw (one-digit (c .before .before .before .before .before .before .args .n) (omega arith)) (c .before .before .put-byte .ensures)
 
   same-length-2 : lts.Need-same-length-2 (claims t) (here t) self.Post
   same-length-2 c = search needs

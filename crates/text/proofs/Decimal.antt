@@ -1,20 +1,17 @@
 -- Laws of decimal digits: how many a number has, that its last one follows those of its tenth, and how long a line gets.
 -- Assumes nothing.
 use Prim.Native.Nat.{ℕ, zero, suc, _+_, _/_, _%_, _^_, _≤_, _<_}
-use native.Mathlib.Numerals.{unary-clauses}
 use native.Mathlib.Omega.{arith}
 use mathlib.Core.Bool.{Bool, true, false, cond}
 use mathlib.Core.List.{List, [], _∷_, _++_}
-use mathlib.Core.Path.{_≡_, _∙_, refl, ap}
+use mathlib.Core.Path.{_≡_, refl, ap}
 use lib.Dec.{ltb}
 use lib.IntN.{ℤ, pos, negsuc, natAbs}
-use lib.ListN.{length, take, length-append}
+use lib.ListN.{length, length-append}
 use lib.Signed.{ltZ}
 use borrow.Author.Tests.{ltb-true, lt-ltb, le-ltb}
 use mir.Syntax.{w64}
 use mir.Val.{SFits}
-use Rattle.io.specs.Counts.{Counts}
-use Rattle.io.specs.Digits.{digits, Fewest}
 use Rattle.layout.specs.declared.AnswerRecord.{AnswerRecord}
 use Rattle.text.specs.Line.{decimalIn, decimal, signedDecimal, lineOf, lineRoom}
 
@@ -33,26 +30,31 @@ at-most zero j n h = omega arith
 at-most (suc k) zero n h = rw (lt-ltb n 10 (omega arith)) (omega arith)
 at-most (suc k) (suc j) n h = one-more (ltb n 10) n (suc j) (decimalIn k (n / 10)) (at-most k j (n / 10) (omega arith)) .1
 
+-- where the digits are enough, room for one more makes no difference
+pub more : (k n : ℕ) → n < 10 ^ suc k → decimalIn (suc k) n ≡ decimalIn (suc (suc k)) n
+more zero n h = rw (lt-ltb n 10 (omega arith))
+more (suc k) n h = ap (digitsBy (ltb n 10) n) (more k (n / 10) (omega arith))
+
 -- a number of 64 bits has from 1 to 20
 pub one-to-twenty : (n : ℕ) → n < 2 ^ 64 → (1 ≤ length (decimal n)) × (length (decimal n) ≤ 20)
 unfolding decimal
 one-to-twenty n h = one-more (ltb n 10) n 19 (decimalIn 19 (n / 10)) (at-most 19 18 (n / 10) (omega arith))
 
--- the fewest digits that hold a number, as the toolchain's library spells them, are these
-fewest : (k j n : ℕ) → n < 10 ^ suc j → n < 10 ^ suc k → (1 < suc k → 10 ^ k ≤ n) → digits 10 (suc k) n ≡ decimalIn (suc j) n
-fewest zero j n l u f = rw (lt-ltb n 10 (omega arith), lt-ltb (n % 10) 10 (omega arith)) (ap (λ (d : ℕ). (48 + d) ∷ []) (omega arith))
-fewest (suc k) zero n l u f = absurd (omega (arith, f (omega arith)))
-fewest (suc k) (suc j) n l u f =
-    let m : 10 ^ suc k ≤ n = f (omega arith) in
-    rw (le-ltb n 10 (omega arith), lt-ltb (n % 10) 10 (omega arith), fewest k j (n / 10) (omega arith) (omega arith) λ h. omega arith)
-
-pub spelled : (n r : ℕ) (text : List ℕ) → n < 2 ^ 64 → Counts r text × (Fewest 10 1 n r × (take r text ≡ digits 10 r n))
-    → (take r text ≡ decimal n) × (length (decimal n) ≡ r)
+-- the two ways of the code
+pub one-digit : (n : ℕ) → n < 10 → decimal n ≡ (48 + n) ∷ []
 unfolding decimal
-spelled n zero text h e = absurd (omega (arith, e .1 .0 .0))
-spelled n (suc k) text h e =
-    let s = e .1 .1 ∙ fewest k 19 n (omega arith) (e .1 .0 .1) (simp unary-clauses at (e .1 .0 .2)) in
-    (s, omega (arith, ap length s, e .0 .1))
+one-digit n h = rw (lt-ltb n 10 h)
+
+pub last-digit : (n : ℕ) → 10 ≤ n → n < 2 ^ 64 → decimal n ≡ decimal (n / 10) ++ ((48 + n % 10) ∷ [])
+unfolding decimal
+last-digit n h b = rw (le-ltb n 10 h, more 18 (n / 10) (omega arith))
+
+-- and their lengths
+pub one-long : (n : ℕ) → n < 10 → length (decimal n) ≡ 1
+one-long n h = rw (one-digit n h)
+
+pub one-longer : (n : ℕ) → 10 ≤ n → n < 2 ^ 64 → length (decimal n) ≡ length (decimal (n / 10)) + 1
+one-longer n h b = rw (last-digit n h b, length-append)
 
 -- a signed number by its sign
 negative : (x : ℤ) → ltZ x (pos 0) ≡ true → signedDecimal x ≡ 45 ∷ decimal (natAbs x)

@@ -56,23 +56,24 @@ fn put_signed(out: &mut [u8], at: usize, x: i64) -> usize
     }
 }
 
-// Puts a number in decimal, with no leading zeros.
+// Puts a number in decimal, with no leading zeros: the digits of its tenth, then its last one.
 fn put_decimal(out: &mut [u8], at: usize, n: u64) -> usize
     requires { ⌜ at + length (decimal n) ≤ length (now out) ⌝ }
     ensures { λ r. ⌜ (r ≡ at + length (decimal n)) × (now (out .exit) ≡ splice (now (out .entry)) at (decimal n)) ⌝ }
 {
-    let mut text = [0u8; 20];
-    let k = io::decimal(n, &mut text);
-    bytes::copy(&text[..k], &mut out[at..]);
-    at + k
+    if n < 10 {
+        put_byte(out, at, 48 + n as u8)
+    } else {
+        let next = put_decimal(out, at, n / 10);
+        put_byte(out, next, 48 + (n % 10) as u8)
+    }
 }
 
 // How many digits a number has in decimal, so that it can be set to the right of a column before it is put.
 pub fn digits(n: u64) -> usize
     ensures { λ r. ⌜ r ≡ length (decimal n) ⌝ }
 {
-    let mut text = [0u8; 20];
-    io::decimal(n, &mut text)
+    if n >= 10 { 1 + digits(n / 10) } else { 1 }
 }
 
 // Puts a byte.

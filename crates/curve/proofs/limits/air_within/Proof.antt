@@ -7,7 +7,7 @@ use lib.Dec.{leb}
 use borrow.Author.Needs.{needs}
 use borrow.Author.Tests.{le-leb, lt-leb, leb-true, leb-false}
 use Rattle.rounding.proofs.Tests.{answered-no, answered-yes}
-use Rattle.curve.specs.Limits.{airWithin}
+use Rattle.curve.specs.Limits.{within, airWithin}
 use Rattle.curve.proofs.limits.air_within.Statement.{statement}
 use Rattle.curve.proofs.limits.air_within.Tie as tie
 
@@ -24,7 +24,9 @@ within-requires c κs = search needs
 
 returns : tie.Need-returns
 unfolding airWithin
-returns c = rw (answered-no (c .before .within .ensures) (c .if1 .taken))
+returns c =
+    let low : within 60000 115000 (c .before .before .args .a .p) ≡ false = answered-no (c .before .within .ensures) (c .if1 .taken) in
+    rw low
 
 within-requires-2 : tie.Need-within-requires-2
 within-requires-2 c κs = search needs

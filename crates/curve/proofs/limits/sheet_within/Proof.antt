@@ -1,8 +1,10 @@
 -- `sheet_within` meets its contract: each test is made where those before it hold. Assumes nothing.
+use mathlib.Core.Path.{_≡_}
+use mathlib.Core.Bool.{false}
 use borrow.Author.Needs.{needs}
 use borrow.Author.Tests.{le-leb, lt-leb}
 use Rattle.rounding.proofs.Tests.{answered-no, answered-yes}
-use Rattle.curve.specs.Limits.{sheetWithin}
+use Rattle.curve.specs.Limits.{within, sheetWithin}
 use Rattle.curve.proofs.limits.sheet_within.Statement.{statement}
 use Rattle.curve.proofs.limits.sheet_within.Tie as tie
 
@@ -11,7 +13,9 @@ within-requires c κs = search needs
 
 returns : tie.Need-returns
 unfolding sheetWithin
-returns c = rw (answered-no (c .before .within .ensures) (c .if1 .taken))
+returns c =
+    let low : within 1 1000000000 (c .before .before .args .s .a1) ≡ false = answered-no (c .before .within .ensures) (c .if1 .taken) in
+    rw low
 
 returns-2 : tie.Need-returns-2
 unfolding sheetWithin

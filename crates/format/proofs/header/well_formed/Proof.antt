@@ -10,12 +10,6 @@ returns : tie.Need-returns
 unfolding wellFormed
 returns c = rw (lt-leb _ _ (c .if1 .taken))
 
-sheet-count-requires : tie.Need-sheet-count-requires
-sheet-count-requires c κs = search needs
-
-event-count-requires : tie.Need-event-count-requires
-event-count-requires c κs = search needs
-
 returns-2 : tie.Need-returns-2
 unfolding wellFormed
 returns-2 c = let b = c .before .before in rw (le-leb _ _ (b .before .if1 .left), ← b .sheet-count .ensures, lt-leb _ _ (c .if2 .taken))
@@ -26,33 +20,6 @@ returns-3 c =
     let b = c .before .before in
     rw (le-leb _ _ (b .before .before .if1 .left), ← b .before .sheet-count .ensures, le-leb _ _ (c .before .if2 .left), ← b .event-count .ensures)
     (rw (lt-leb _ _ (c .if3 .taken), and-false))
-
-mul-from : tie.Need-mul-from
-mul-from c = search needs
-
-add-from : tie.Need-add-from
-add-from c = search needs
-
-u32-at-requires : tie.Need-u32-at-requires
-u32-at-requires c κs = search needs
-
-u32-at-requires-2 : tie.Need-u32-at-requires-2
-u32-at-requires-2 c κs = search needs
-
-cast-both : tie.Need-cast-both
-cast-both c = search needs
-
-both-requires : tie.Need-both-requires
-both-requires c κs = search needs
-
-mul-both : tie.Need-mul-both
-mul-both c = search needs
-
-add-both : tie.Need-add-both
-add-both c = search needs
-
-both-requires-2 : tie.Need-both-requires-2
-both-requires-2 c κs = search needs
 
 returns-4 : tie.Need-returns-4
 unfolding wellFormed
@@ -67,18 +34,5 @@ pub well-formed-spec : {M : Type 1} → statement M
 well-formed-spec =
     tie.close
     (tie.spec
-    returns
-    sheet-count-requires
-    event-count-requires
-    returns-2
-    returns-3
-    mul-from
-    add-from
-    u32-at-requires
-    u32-at-requires-2
-    cast-both
-    both-requires
-    mul-both
-    add-both
-    both-requires-2
-    returns-4)
+    returns (λ c κs. search needs) (λ c κs. search needs) returns-2 returns-3 (λ c. search needs) (λ c. search needs) (λ c κs. search needs)
+    (λ c κs. search needs) (λ c. search needs) (λ c κs. search needs) (λ c. search needs) (λ c. search needs) (λ c κs. search needs) returns-4)

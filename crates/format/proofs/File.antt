@@ -11,7 +11,8 @@ use Rattle.layout.specs.declared.EventRecord.{EventRecord}
 use Rattle.layout.specs.Fields.{AreBytes, bytesOf, wordsBytes, u32Bytes}
 use Rattle.layout.specs.Records.{recordAt, sheetOf, sheetBytes, SheetFits, eventOf, eventBytes, EventFits}
 use Rattle.layout.proofs.Numbers.{number-bytes, bytes-number}
-use Rattle.layout.proofs.RoundTrips.{length-record, record-below, length-sheet, sheet-read, sheet-fits, sheet-written, length-event, event-read, event-fits, event-written}
+use Rattle.layout.proofs.RoundTrips.{length-record, record-below, length-sheet, sheet-read, sheet-fits, sheet-written}
+use Rattle.layout.proofs.RoundTrips.{length-event, event-read, event-fits, event-written}
 use Rattle.format.specs.Header.{sheetCount, sheetOffset, eventCount, eventOffset, recordsFrom, sheetRecordsOf, eventsOf}
 use Rattle.format.specs.File.{headerBytes, fileBytes, Each, ReadAs, ReadsBack, MadeAgain}
 use Rattle.format.specs.File.Each.{none, more}

@@ -87,11 +87,12 @@ module _ (r : EventRecord) where
 
 pub known-record : (r : EventRecord) (e : Event) → entryOf r ≡ Entry.Known e → r ≡ recordOfEvent e
 unfolding entryOf
-known-record r e = go (eqb (r .pad) 0) refl
+known-record r e h = go (eqb (r .pad) 0) refl _ _ h (by-kind r e) never
   where
-    go : (b : Bool) → eqb (r .pad) 0 ≡ b → cond b (byKind r) (Entry.Malformed (r .kind)) ≡ Entry.Known e → r ≡ recordOfEvent e
-    go true z h = by-kind r e (eqb-true _ _ z) h
-    go false z h = never h
+    go : (b : Bool) → eqb (r .pad) 0 ≡ b → (x y : Entry) → cond b x y ≡ Entry.Known e → (r .pad ≡ 0 → x ≡ Entry.Known e → r ≡ recordOfEvent e)
+        → (y ≡ Entry.Known e → r ≡ recordOfEvent e) → r ≡ recordOfEvent e
+    go true z x y h f g = f (eqb-true _ _ z) h
+    go false z x y h f g = g h
 
 pub entry-inverse : EntryInverse
 entry-inverse = record { known = record-known; only = known-record }

@@ -1,6 +1,6 @@
 -- What the walks of the reader's functions say alike: the words of the program logic, which each takes from here; the types of a reader
--- and of its slice; and three steps, of a call that asks a fact, of one that has returned, and of a reader that is made.
--- Assumes nothing.
+-- and of its slice; the steps by which a local is read or set, a callee asked, a reader made and a call returned from; and how a walk
+-- comes to the function's theorem. Assumes nothing.
 pub use mathlib.Core.Path.{_≡_, refl, ap}
 pub use Prim.Native.Nat.{ℕ, _+_, _≤_, _<_, _^_}
 pub use mathlib.Core.List.{List, [], _∷_}
@@ -111,10 +111,10 @@ module _ {M : Type 1} {𝓤 : URA M} {H : Heap 𝓤} {A : Atoms 𝓤} (W : Given
       → Seq (Go {0}) W (‵ (typeAt (T .signature .result) κs .own r (u ∷ [])) ∷ token κ q ∷ Γ) G)
       → Seq (Go {0}) W (raw (mean 𝓤 H A (later (some (λ (r : Res (T .signature) κs).
       (token κ q ⊛ ‵ (typeAt (T .signature .result) κs .own r (u ∷ []))) ⊛ raw (ensured 𝓤 H A T c κs a g r))))) ∷ Γ) G
-  returned T c κs a g φ says κ q u z k =
+  returned T c κs a g φ told κ q u z k =
       let R : RattleType = typeAt (T .signature .result) κs in
       use1 W (later (some (λ (r : R .Denot). (token κ q ⊛ ‵ (R .own r (u ∷ []))) ⊛ raw (ensured 𝓤 H A T c κs a g r)))) (id⊢ 𝓤 _) $ await ! z $ pick ! (λ r.
-      split ! $ move ! (1 ∷ []) $ use1 W (raw (fact 𝓤 (φ r))) (exE 𝓤 _ (λ ws. via 𝓤 _ (snd∗ 𝓤 (sem 𝓤 H A (lasts T κs a ws)) _) (says r ws))) $
+      split ! $ move ! (1 ∷ []) $ use1 W (raw (fact 𝓤 (φ r))) (exE 𝓤 _ (λ ws. via 𝓤 _ (snd∗ 𝓤 (sem 𝓤 H A (lasts T κs a ws)) _) (told r ws))) $
       heard ! (φ r) (λ e. split ! $ move ! (1 ∷ []) $ peeks ! R (Is R) (shows 𝓤 H A R) r (u ∷ []) (λ is. k r e is)))
 
 -- a function whose MIR is walked so meets its contract

@@ -1,9 +1,7 @@
 -- `reader::event` meets its contract: a walk of its MIR, by hand. The struct is taken apart, and `event_at` is called on the slice and
 -- the number. All that the proof knows of `event_at` is that it meets its contract. Assumes nothing.
 use denote.Struct.Laws as LL
-use denote.Triple.Entry.{Vals}
 use Rattle.layout.specs.Records.{eventAt}
-use Rattle.layout.specs.declared.EventRecord.{EventRecord}
 use Rattle.reader.specs.declared.Reader.{Reader}
 use Rattle.reader.proofs.Walk.{_≡_, refl, _+_, _≤_, [], _∷_, Holds, length, URA, named, w64, Val, WT, vint, hasTy, SProp, ent, id⊢, Lft, Share, Memory}
 use Rattle.reader.proofs.Walk.{Routine, Heap, WpFn, Tables, Atoms, Fun, givenOf, tables, tablesOf, Given, ‵, raw, _$_, _∵_, !, qed, move, drop, use1}

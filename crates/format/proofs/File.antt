@@ -1,6 +1,6 @@
 -- A file that is made of records is read as these, `ReadsBack`, and a file that is read is made of its records again, `MadeAgain`.
 -- Assumes nothing.
-use Prim.Native.Nat.{ℕ, zero, suc, _+_, _*_, _<_, _≤_}
+use Prim.Native.Nat.{ℕ, zero, suc, _+_, _*_, _≤_}
 use native.Mathlib.Omega.{arith}
 use mathlib.Core.Path.{_≡_, refl, sym, ap, _∙_}
 use mathlib.Core.List.{List, [], _∷_, _++_, flatMap, append-nil, append-assoc}
@@ -9,11 +9,12 @@ use lib.Seq.{take-at, take-add, take-all, drop-at, drop-drop}
 use Rattle.layout.specs.declared.SheetRecord.{SheetRecord}
 use Rattle.layout.specs.declared.EventRecord.{EventRecord}
 use Rattle.layout.specs.Fields.{AreBytes, bytesOf, wordsBytes, u32Bytes}
-use Rattle.layout.specs.Records.{recordAt, sheetOf, sheetBytes, SheetFits, eventOf, eventBytes, EventFits}
+use Rattle.layout.specs.Records.{recordAt, sheetOf, sheetBytes, eventOf, eventBytes}
 use Rattle.layout.proofs.Numbers.{number-bytes, bytes-number}
-use Rattle.layout.proofs.RoundTrips.{length-record, record-below, length-sheet, sheet-read, sheet-fits, sheet-written, length-event, event-read, event-fits, event-written}
-use Rattle.format.specs.Header.{sheetCount, sheetOffset, eventCount, eventOffset, recordsFrom, sheetRecordsOf, eventsOf}
-use Rattle.format.specs.File.{headerBytes, fileBytes, Each, ReadAs, ReadsBack, MadeAgain}
+use Rattle.layout.proofs.RoundTrips.{length-record, record-below, length-sheet, sheet-read, sheet-fits, sheet-written}
+use Rattle.layout.proofs.RoundTrips.{length-event, event-read, event-fits, event-written}
+use Rattle.format.specs.Header.{sheetCount, eventCount, recordsFrom, sheetRecordsOf, eventsOf}
+use Rattle.format.specs.File.{fileBytes, Each, ReadsBack, MadeAgain}
 use Rattle.format.specs.File.Each.{none, more}
 use Rattle.format.proofs.Shape.{Shape, shape, formed}
 

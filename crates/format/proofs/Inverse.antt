@@ -58,37 +58,41 @@ module _ (r : EventRecord) where
     abbrev Is : Type 0
     Is = r ≡ recordOfEvent e
 
+    -- what is shown of kind n, with its test t and its event d
+    abbrev Way : ℕ → Bool → Event → Type 0
+    Way n t d = r .kind ≡ n → t ≡ true → r ≡ recordOfEvent d
+
     -- one kind: it is this one, with its test passed and its event found, or it is among those that follow
-    kind : (d : Event) (n : ℕ) (t : Bool) (x : Entry) → Known (cond (eqb (r .kind) n) (knownIf t r d) x)
-        → (r .kind ≡ n → t ≡ true → r ≡ recordOfEvent d) → (Known x → Is) → Is
-    kind d n t x = go (eqb (r .kind) n) refl t
+    kind : (n : ℕ) (t : Bool) (d : Event) (x : Entry) → Known (cond (eqb (r .kind) n) (knownIf t r d) x) → Way n t d → (Known x → Is) → Is
+    kind n t d x = go (eqb (r .kind) n) refl t
       where
-        go : (b : Bool) → eqb (r .kind) n ≡ b → (t : Bool) → Known (cond b (knownIf t r d) x) → (r .kind ≡ n → t ≡ true → r ≡ recordOfEvent d) → (Known x → Is) → Is
+        go : (b : Bool) → eqb (r .kind) n ≡ b → (t : Bool) → Known (cond b (knownIf t r d) x) → Way n t d → (Known x → Is) → Is
         go true k true h f g = let s : d ≡ e = cc in rw (← s) (f (eqb-true _ _ k) refl)
         go true k false h f g = never h
         go false k t h f g = g h
 
     by-kind : r .pad ≡ 0 → Known (byKind r) → Is
     by-kind z h =
-        kind (Load (r .cylinder)) 1 (noRaw r && noAir r) _ h
+        kind 1 (noRaw r && noAir r) (Load (r .cylinder)) _ h
         (λ k p. let b = both (noRaw r) (noAir r) p in let a = zero-air (b .1) in same z k (no-size _ (b .0)) refl (a .0) (a .1) (a .2)) (λ h.
-        kind (Zero (r .raw)) 2 (noCylinder r && noAir r) _ h
+        kind 2 (noCylinder r && noAir r) (Zero (r .raw)) _ h
         (λ k p. let b = both (noCylinder r) (noAir r) p in let a = zero-air (b .1) in same z k refl (eqb-true _ _ (b .0)) (a .0) (a .1) (a .2)) (λ h.
-        kind (Span (measured r) (r .cylinder)) 3 true _ h (λ k p. same z k refl refl refl refl refl) (λ h.
-        kind (Reference (r .cylinder) (r .e)) 4 (noRaw r && eqb (r .p) 0 && eqb (r .t) 0) _ h
+        kind 3 true (Span (measured r) (r .cylinder)) _ h (λ k p. same z k refl refl refl refl refl) (λ h.
+        kind 4 (noRaw r && eqb (r .p) 0 && eqb (r .t) 0) (Reference (r .cylinder) (r .e)) _ h
         (λ k p. let a = both (noRaw r && eqb (r .p) 0) (eqb (r .t) 0) p in let b = both (noRaw r) (eqb (r .p) 0) (a .0) in
         same z k (no-size _ (b .0)) refl (eqb-true _ _ (b .1)) (eqb-true _ _ (a .1)) refl) (λ h.
-        kind Absolute 5 (noFields r) _ h (bare z) (λ h.
-        kind (Sample (measured r)) 6 (noCylinder r) _ h (λ k p. same z k refl (eqb-true _ _ p) refl refl refl) (λ h.
-        kind Start 7 (noFields r) _ h (bare z) (λ h. kind Stop 8 (noFields r) _ h (bare z) (λ h. kind Area 9 (noFields r) _ h (bare z) never))))))))
+        kind 5 (noFields r) Absolute _ h (bare z) (λ h.
+        kind 6 (noCylinder r) (Sample (measured r)) _ h (λ k p. same z k refl (eqb-true _ _ p) refl refl refl) (λ h.
+        kind 7 (noFields r) Start _ h (bare z) (λ h. kind 8 (noFields r) Stop _ h (bare z) (λ h. kind 9 (noFields r) Area _ h (bare z) never))))))))
 
 pub known-record : (r : EventRecord) (e : Event) → entryOf r ≡ Entry.Known e → r ≡ recordOfEvent e
 unfolding entryOf
-known-record r e = go (eqb (r .pad) 0) refl
+known-record r e h = go (eqb (r .pad) 0) refl _ _ h (by-kind r e) never
   where
-    go : (b : Bool) → eqb (r .pad) 0 ≡ b → cond b (byKind r) (Entry.Malformed (r .kind)) ≡ Entry.Known e → r ≡ recordOfEvent e
-    go true z h = by-kind r e (eqb-true _ _ z) h
-    go false z h = never h
+    go : (b : Bool) → eqb (r .pad) 0 ≡ b → (x y : Entry) → cond b x y ≡ Entry.Known e → (r .pad ≡ 0 → x ≡ Entry.Known e → r ≡ recordOfEvent e)
+        → (y ≡ Entry.Known e → r ≡ recordOfEvent e) → r ≡ recordOfEvent e
+    go true z x y h f g = f (eqb-true _ _ z) h
+    go false z x y h f g = g h
 
 pub entry-inverse : EntryInverse
 entry-inverse = record { known = record-known; only = known-record }

@@ -3,6 +3,7 @@ ghost use mathlib.Core.Path.{_≡_};
 ghost use mathlib.Core.Bool.{_&&_};
 ghost use lib.Dec.{eqb};
 ghost use Rattle.format.specs.Entries.{noRaw, noCylinder, noAir, noFields, measured as Entries·measured, knownIf, byKind, entryOf};
+use crate::both;
 use engine::Entry;
 use engine::Event;
 use layout::EventRecord;
@@ -65,13 +66,6 @@ fn known_if(zero: bool, r: EventRecord, event: Event) -> Entry
     } else {
         Entry::Malformed(r.kind)
     }
-}
-
-// As a function, so that a chain of tests meets one contract and does not branch.
-fn both(a: bool, b: bool) -> bool
-    ensures { λ x. ⌜ x ≡ (a && b) ⌝ }
-{
-    a && b
 }
 
 fn no_raw(r: EventRecord) -> bool

@@ -3,6 +3,7 @@ ghost use mathlib.Core.Path.{_≡_};
 ghost use Prim.Native.Nat.{_≤_};
 ghost use lib.ListN.{length};
 ghost use Rattle.format.specs.Header.{sheetCount, eventCount, firstEvent, wellFormed};
+use crate::both;
 use fields::u32_at;
 
 // How many sheets the header says.
@@ -43,15 +44,10 @@ pub fn well_formed(file: &[u8]) -> bool
     if 16 < sheets {
         return false;
     }
-    if u32_at(file, 4) != 16 {
-        return false;
-    }
     if 2700 < events {
         return false;
     }
     let from = 16 + 24 * sheets;
-    if u32_at(file, 12) as usize != from {
-        return false;
-    }
-    file.len() == from + 24 * events
+    let offsets = both(u32_at(file, 4) == 16, u32_at(file, 12) as usize == from);
+    both(offsets, file.len() == from + 24 * events)
 }

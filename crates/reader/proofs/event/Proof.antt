@@ -1,21 +1,14 @@
 -- `reader::event` meets its contract: a walk of its MIR, by hand. The struct is taken apart, and `event_at` is called on the slice and
 -- the number. All that the proof knows of `event_at` is that it meets its contract. Assumes nothing.
-use lib.Dec.{T as Holds}
-use mir.Val.{hasTy}
-use contract.Running.{tablesOf}
-use types.Kit.{given}
 use denote.Struct.Laws as LL
-use denote.Struct.Rest.{all-own, own-open}
-use denote.Triple.Entry.{Vals}
 use Rattle.layout.specs.Records.{eventAt}
-use Rattle.layout.specs.declared.EventRecord.{EventRecord}
 use Rattle.reader.specs.declared.Reader.{Reader}
-use Rattle.reader.proofs.Walk.{_≡_, refl, _+_, _≤_, [], _∷_, length, URA, named, w64, Val, WT, vint, SProp, ent, id⊢, Lft, Share, Memory, Routine}
-use Rattle.reader.proofs.Walk.{Heap, WpFn, Tables, Atoms, Fun, givenOf, tables, Given, ‵, raw, _$_, _∵_, !, qed, move, drop, use1, use2, learn, fsplit}
-use Rattle.reader.proofs.Walk.{fjoin, suffices, frame, done, whole, sub, look-in, look, init, forget, stop, fld, from, load, of-opd, and-then, no-more}
-use Rattle.reader.proofs.Walk.{land, returns, enter, alloc1, alloc0, params1, pass1, pass0, free1, free0, fmOf, owns, now, nothing, Contract, Triple}
-use Rattle.reader.proofs.Walk.{calls-at, onEntry, tripleOf, cited, says, needs, walkOf, ends-at, α, Held, machine, token, gone, var, sets, asks}
-use Rattle.reader.proofs.Walk.{returned, met}
+use Rattle.reader.proofs.Walk.{_≡_, refl, _+_, _≤_, [], _∷_, Holds, length, URA, named, w64, Val, WT, vint, hasTy, SProp, ent, id⊢, Lft, Share, Memory}
+use Rattle.reader.proofs.Walk.{Routine, Heap, WpFn, Tables, Atoms, Fun, givenOf, tables, tablesOf, Given, ‵, raw, _$_, _∵_, !, qed, move, drop, use1}
+use Rattle.reader.proofs.Walk.{use2, learn, fsplit, fjoin, suffices, frame, done, given, whole, sub, look-in, look, init, forget, stop, fld, from}
+use Rattle.reader.proofs.Walk.{load, of-opd, and-then, no-more, land, returns, enter, alloc1, alloc0, params1, pass1, pass0, free1, free0, fmOf, owns}
+use Rattle.reader.proofs.Walk.{now, nothing, all-own, own-open, Contract, Triple, calls-at, onEntry, tripleOf, cited, says, needs, walkOf, ends-at, α}
+use Rattle.reader.proofs.Walk.{Held, machine, token, gone, var, sets, asks, returned, met}
 use Rattle.reader.proofs.Reader as T
 use Rattle.reader.proofs.Reader.Laws as T′
 use Rattle.layout.proofs.EventRecord as S
@@ -59,7 +52,8 @@ module _ {M : Type 1} (𝓤 : URA M) (H : Heap 𝓤) (A : Atoms 𝓤) (W : Given
       move ! (9 ∷ 0 ∷ []) $ use2 W (raw (EventAt .pre to)) (asks W within) $
       calls-at ! (fmOf 𝓤 H (W .laws) 𝓣) EventAt known to
       (and-then ! (var ! 3 refl) (and-then ! (var ! 1 refl) (no-more !))) (λ u.
-      returned W step.ended (step.clauses 𝓤 H A mem run) (κ, tt) (d .src, (d .at, tt)) tt (λ r. r ≡ eventAt (now (d .src)) (d .at)) (λ r ws. id⊢ 𝓤 _) κ q u tt (λ r e is.
+      returned W step.ended (step.clauses 𝓤 H A mem run) (κ, tt) (d .src, (d .at, tt)) tt (λ r. r ≡ eventAt (now (d .src)) (d .at)) (λ r ws. id⊢ 𝓤 _)
+      κ q u tt (λ r e is.
       -- [what the event owns; the token; _3; …; _2; …; _1; …; room for _0; …]
       land ! (from ! (stop !)) (init ! 8 refl (LL.lawful S.the-type S′.the-laws 𝓤 H A W .typed r _ is .0)) $
       returns ! (look ! 8 refl) $ forget ! 2 refl $ forget ! 4 refl $ forget ! 6 refl $ forget ! 8 refl $

@@ -2,17 +2,13 @@
 -- number plus 24. That the sum does not wrap is the contract's to ask: the record lies in the slice. Of what the struct owns, the facts
 -- of the sum take the place of its number's. Assumes nothing.
 use native.Mathlib.Omega.{arith}
-use lib.Dec.{T as Holds}
-use mir.Val.{hasTy}
-use contract.Running.{tablesOf}
 use denote.Struct.Laws as LL
-use denote.Struct.Rest.{own-put}
 use Rattle.reader.specs.declared.Reader.{Reader}
-use Rattle.reader.proofs.Walk.{refl, ℕ, _+_, _≤_, _<_, _^_, [], _∷_, length, URA, named, w64, Val, WT, SProp, ent, Lft, Share, Memory, Routine, Heap}
-use Rattle.reader.proofs.Walk.{WpFn, Tables, Atoms, Fun, givenOf, tables, Given, ‵, _$_, _∵_, !, qed, by, move, fsplit, fjoin, suffices, frame, whole}
-use Rattle.reader.proofs.Walk.{sub, look-in, agg, look, init, forget, stop, fld, from, load, lit, of-opd, bin, and-then, no-more, returns, enter}
-use Rattle.reader.proofs.Walk.{alloc1, alloc0, params1, pass1, pass0, free1, free0, owns, Is, uint-makes, usize, now, owned, nothing, onEntry, says}
-use Rattle.reader.proofs.Walk.{needs, walkOf, ends-at, α, Held, reader, token, gone, var, sets, met}
+use Rattle.reader.proofs.Walk.{refl, ℕ, _+_, _≤_, _<_, _^_, [], _∷_, Holds, length, URA, named, w64, Val, WT, hasTy, SProp, ent, Lft, Share, Memory}
+use Rattle.reader.proofs.Walk.{Routine, Heap, WpFn, Tables, Atoms, Fun, givenOf, tables, tablesOf, Given, ‵, _$_, _∵_, !, qed, by, move, fsplit, fjoin}
+use Rattle.reader.proofs.Walk.{suffices, frame, whole, sub, look-in, agg, look, init, forget, stop, fld, from, load, lit, of-opd, bin, and-then}
+use Rattle.reader.proofs.Walk.{no-more, returns, enter, alloc1, alloc0, params1, pass1, pass0, free1, free0, owns, Is, uint-makes, usize, now, owned}
+use Rattle.reader.proofs.Walk.{nothing, own-put, onEntry, says, needs, walkOf, ends-at, α, Held, reader, token, gone, var, sets, met}
 use Rattle.reader.proofs.Reader as T
 use Rattle.reader.proofs.Reader.Laws as T′
 use Rattle.reader.proofs.moved.Key.{name as #reader·moved}

@@ -2,15 +2,14 @@
 -- `first_event` gives of it. All that the proof knows of `first_event` is that it meets its contract.
 -- A `&[u8]` is Copy, so what it owns is had twice: for the callee, and inside the result, beside the facts of the number.
 -- Assumes nothing.
-use contract.Running.{tablesOf}
 use Rattle.format.specs.Header.{firstEvent}
 use Rattle.reader.proofs.Walk.{_≡_, refl, ap, ℕ, _≤_, List, [], _∷_, length, URA, fullShare, named, w64, tyInt, Val, SProp, ent, id⊢, Lft, Share, fat}
-use Rattle.reader.proofs.Walk.{Memory, Routine, Heap, WpFn, Tables, Atoms, Fun, givenOf, tables, Given, ‵, raw, _⊛_, _$_, _∵_, !, qed, by, move, drop}
-use Rattle.reader.proofs.Walk.{use1, use2, rewrite, split, fsplit, fjoin, suffices, frame, agg, look, init, forget, stop, from, and-then, no-more}
-use Rattle.reader.proofs.Walk.{land, returns, enter, alloc1, alloc0, params1, pass1, pass0, free1, free0, fmOf, owns, Is, uint-lawful, u8, RefT, now}
-use Rattle.reader.proofs.Walk.{slice-vals, shr-slice-tells, shr-slice-lawful, shr-slice-copy, only, nothing, Contract, Triple, calls-at, onEntry}
-use Rattle.reader.proofs.Walk.{tripleOf, cited, says, needs, walkOf, ends-at, Bytes, machine, reader, token, gone, var, sets, asks, made, returned}
-use Rattle.reader.proofs.Walk.{met}
+use Rattle.reader.proofs.Walk.{Memory, Routine, Heap, WpFn, Tables, Atoms, Fun, givenOf, tables, tablesOf, Given, ‵, raw, _⊛_, _$_, _∵_, !, qed, by}
+use Rattle.reader.proofs.Walk.{move, drop, use1, use2, rewrite, split, fsplit, fjoin, suffices, frame, agg, look, init, forget, stop, from, and-then}
+use Rattle.reader.proofs.Walk.{no-more, land, returns, enter, alloc1, alloc0, params1, pass1, pass0, free1, free0, fmOf, owns, Is, uint-lawful, u8}
+use Rattle.reader.proofs.Walk.{RefT, now, slice-vals, shr-slice-tells, shr-slice-lawful, shr-slice-copy, only, nothing, Contract, Triple, calls-at}
+use Rattle.reader.proofs.Walk.{onEntry, tripleOf, cited, says, needs, walkOf, ends-at, Bytes, machine, reader, token, gone, var, sets, asks, made}
+use Rattle.reader.proofs.Walk.{returned, met}
 use Rattle.format.proofs.header.first_event as first-event
 use Rattle.format.proofs.header.first_event.Symbol as first-event-def
 use Rattle.format.proofs.header.first_event.Symbol.{name as #format·header·first-event}
@@ -22,7 +21,8 @@ use Rattle.reader.proofs.new.Statement as stated
 use Rattle.reader.proofs.new.Code as code
 
 module _ {M : Type 1} (𝓤 : URA M) (H : Heap 𝓤) (A : Atoms 𝓤) (W : Given 𝓤 H A) (mem : Memory → SProp 𝓤) (run : Routine → Fun 𝓤) (𝓣 : Tables 𝓤 H)
-    (known : Triple 𝓤 (𝓣 .C #format·header·first-event) (tripleOf 𝓤 H A first-event.signature (first-event.spec 𝓤 H A mem run))) (κ : Lft) (q : Share) (s : RefT (List ℕ)) where
+    (known : Triple 𝓤 (𝓣 .C #format·header·first-event) (tripleOf 𝓤 H A first-event.signature (first-event.spec 𝓤 H A mem run)))
+    (κ : Lft) (q : Share) (s : RefT (List ℕ)) where
   -- the contract of `first_event`, and what it is passed, which is what `new` is
   abbrev FirstEvent : Contract 𝓤
   FirstEvent = tripleOf 𝓤 H A first-event.signature (first-event.spec 𝓤 H A mem run)
@@ -30,11 +30,11 @@ module _ {M : Type 1} (𝓤 : URA M) (H : Heap 𝓤) (A : Atoms 𝓤) (W : Given
   abbrev to : FirstEvent .Ghost
   to = (((κ, tt), (q, tt), tt, (s, tt), (machine s ∷ [], tt)), tt)
 
-  abbrev Post : Val → SProp 𝓤
-  Post = walkOf 𝓤 H A new.ended (gone new.ended) (new.clauses 𝓤 H A mem run) .post to
+  abbrev Ends : Val → SProp 𝓤
+  Ends = walkOf 𝓤 H A new.ended (gone new.ended) (new.clauses 𝓤 H A mem run) .post to
 
   walk : Is (Bytes κ) s (machine s ∷ []) → 16 ≤ length (now s)
-      → ent 𝓤 (onEntry 𝓤 H A new.signature (κ, tt) (q, tt) (s, tt) (machine s ∷ [], tt)) (WpFn 𝓤 H (𝓣 .C) (𝓣 .Λ) code.function (machine s ∷ []) Post)
+      → ent 𝓤 (onEntry 𝓤 H A new.signature (κ, tt) (q, tt) (s, tt) (machine s ∷ [], tt)) (WpFn 𝓤 H (𝓣 .C) (𝓣 .Λ) code.function (machine s ∷ []) Ends)
   walk p header =
       qed W (token κ q ∷ ‵ (owns (Bytes κ ∷ []) (s, tt) (machine s ∷ [], tt)) ∷ []) ∵ enter ! (𝓣 .C) (𝓣 .Λ) code.function (machine s ∷ []) _ $
       alloc1 ! (λ l₀. alloc1 ! (λ l₁. alloc1 ! (λ l₂. alloc0 ! $ params1 ! $

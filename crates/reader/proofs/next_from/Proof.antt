@@ -2,29 +2,21 @@
 -- `event` and `moved` are called on it, and of the reader that `moved` returns the number is read. All that the proof knows of the two is
 -- that each meets its contract. A `&[u8]` is Copy: for each call a reader is made of a copy of what it owns. Assumes nothing.
 use mathlib.Core.Path.{subst}
-use lib.Dec.{T as Holds}
-use mir.Val.{hasTy}
-use base.Logic.{sep}
-use ghost.Atoms.{sem}
-use contract.Running.{tablesOf}
-use base.Fml.{Fml}
-use types.Kit.{⋆}
 use denote.Struct.Laws as LL
-use denote.Struct.Rest.{own-shut}
 use Rattle.layout.specs.Records.{eventAt}
 use Rattle.layout.specs.declared.EventRecord.{EventRecord}
 use Rattle.layout.proofs.EventRecord as S
 use Rattle.layout.proofs.EventRecord.Laws as S′
 use Rattle.reader.specs.declared.Reader.{Reader}
 use Rattle.reader.specs.declared.Yielded.{Yielded}
-use Rattle.reader.proofs.Walk.{_≡_, refl, ap, ℕ, _+_, _≤_, _<_, _^_, List, [], _∷_, length, URA, fullShare, named, erased, w64, Val, WT, vint, SProp}
-use Rattle.reader.proofs.Walk.{ent, id⊢, Lft, Share, fat, Memory, Routine, Heap, WpFn, Tables, Atoms, Fun, givenOf, tables, Given, ‵, raw, _⊛_, _$_}
-use Rattle.reader.proofs.Walk.{_∵_, !, qed, by, move, drop, use1, use2, rewrite, split, fsplit, fjoin, suffices, frame, done, whole, sub, look-in, agg}
-use Rattle.reader.proofs.Walk.{look, init, forget, stop, fld, from, load, of-opd, and-then, no-more, land, returns, enter, alloc1, alloc0, params1}
-use Rattle.reader.proofs.Walk.{pass1, pass0, free1, free0, fmOf, owns, Is, uint-vals, uint-tells, uint-makes, u8, usize, RefT, now, slice-vals}
-use Rattle.reader.proofs.Walk.{shr-slice-tells, shr-slice-lawful, shr-slice-copy, only, owned, nothing, Contract, Triple, calls-at, onEntry, tripleOf}
-use Rattle.reader.proofs.Walk.{cited, says, needs, walkOf, ends-at, αᵉ, Held, Bytes, machine, reader, token, gone, var, sets, asks, made, returned}
-use Rattle.reader.proofs.Walk.{met}
+use Rattle.reader.proofs.Walk.{_≡_, refl, ap, ℕ, _+_, _≤_, _<_, _^_, List, [], _∷_, Holds, length, URA, fullShare, named, erased, w64, Val, WT, vint}
+use Rattle.reader.proofs.Walk.{hasTy, SProp, ent, id⊢, sep, Lft, Share, fat, Fml, Memory, Routine, Heap, WpFn, Tables, Atoms, sem, Fun, givenOf}
+use Rattle.reader.proofs.Walk.{tables, tablesOf, Given, ‵, raw, _⊛_, _$_, _∵_, !, qed, by, move, drop, use1, use2, rewrite, split, fsplit, fjoin}
+use Rattle.reader.proofs.Walk.{suffices, frame, done, ⋆, whole, sub, look-in, agg, look, init, forget, stop, fld, from, load, of-opd, and-then}
+use Rattle.reader.proofs.Walk.{no-more, land, returns, enter, alloc1, alloc0, params1, pass1, pass0, free1, free0, fmOf, owns, Is, uint-vals}
+use Rattle.reader.proofs.Walk.{uint-tells, uint-makes, u8, usize, RefT, now, slice-vals, shr-slice-tells, shr-slice-lawful, shr-slice-copy, only}
+use Rattle.reader.proofs.Walk.{owned, nothing, own-shut, Contract, Triple, calls-at, onEntry, tripleOf, cited, says, needs, walkOf, ends-at, αᵉ, Held}
+use Rattle.reader.proofs.Walk.{Bytes, machine, reader, token, gone, var, sets, asks, made, returned, met}
 use Rattle.reader.proofs.Reader as T
 use Rattle.reader.proofs.Reader.Laws as T′
 use Rattle.reader.proofs.Yielded as Y
@@ -56,6 +48,9 @@ module _ {M : Type 1} (𝓤 : URA M) (H : Heap 𝓤) (A : Atoms 𝓤) (W : Given
   abbrev Bound : walkOf 𝓤 H A next-from.ended (gone next-from.ended) (next-from.clauses 𝓤 H A mem run) .Ghost
   Bound = (((κ, tt), (q, tt), tt, (s, (n, tt)), (machine s ∷ [], (vint w64 n ∷ [], tt))), tt)
 
+  abbrev Ends : Val → SProp 𝓤
+  Ends = walkOf 𝓤 H A next-from.ended (gone next-from.ended) (next-from.clauses 𝓤 H A mem run) .post Bound
+
   -- the machine value of the reader that is made
   abbrev mach : Val
   mach = T′.lowered (reader s n)
@@ -83,17 +78,17 @@ module _ {M : Type 1} (𝓤 : URA M) (H : Heap 𝓤) (A : Atoms 𝓤) (W : Given
 
   exits : (t : EventRecord) (k : ℕ) → There t → k ≡ n + 24 → k < 2 ^ 64
       → ent 𝓤 (⋆ 𝓤 H A (token κ q ∷ ‵ (S.the-row .own t (S′.lowered t ∷ [])) ∷ []))
-      (walkOf 𝓤 H A next-from.ended (gone next-from.ended) (next-from.clauses 𝓤 H A mem run) .post Bound (Y′.lowered (record { event = t; at = k })))
+      (Ends (Y′.lowered (record { event = t; at = k })))
   exits t k e f fits =
       let y : Yielded = record { event = t; at = k } in
       qed W (token κ q ∷ ‵ (S.the-row .own t (S′.lowered t ∷ [])) ∷ []) ∵
-      suffices ! _ (ends-at 𝓤 H A next-from.ended (gone next-from.ended) (next-from.clauses 𝓤 H A mem run) W Bound (Y′.lowered y) y (tt, (tt, tt)) (tt, (tt, tt))) $
+      suffices ! _ (ends-at 𝓤 H A next-from.ended (gone next-from.ended) (next-from.clauses 𝓤 H A mem run) W Bound _ y (tt, (tt, tt)) (tt, (tt, tt))) $
       says ! (λ i. record { event = e i; at = f i }) $ frame ! $ nothing ! $ nothing ! $ fjoin ! $ nothing ! $ fjoin ! $ frame ! $
       nothing ! $ owned ! usize (Is usize) (uint-makes 𝓤 H A W w64) k _ (refl, fits) $ fjoin ! $ move ! (1 ∷ 0 ∷ []) $ fjoin ! $
       by ! (own-shut 𝓤 H A W Y.the-type Y′.the-laws (t, (k, tt)))
 
   walk : Is (Bytes κ) s (machine s ∷ []) → ent 𝓤 (onEntry 𝓤 H A next-from.signature (κ, tt) (q, tt) (s, (n, tt)) (machine s ∷ [], (vint w64 n ∷ [], tt)))
-      (WpFn 𝓤 H (𝓣 .C) (𝓣 .Λ) code.function (machine s ∷ vint w64 n ∷ []) (walkOf 𝓤 H A next-from.ended (gone next-from.ended) (next-from.clauses 𝓤 H A mem run) .post Bound))
+      (WpFn 𝓤 H (𝓣 .C) (𝓣 .Λ) code.function (machine s ∷ vint w64 n ∷ []) Ends)
   walk p =
       let slice = shr-slice-lawful 𝓤 H A W (named 0) κ u8 .typed s (machine s ∷ []) p .0 in
       let wt : Holds (hasTy (T′.mir erased) mach) × WT mach = (tt, (slice .1, (record { fits = ok }, tt))) in
@@ -125,16 +120,24 @@ module _ {M : Type 1} (𝓤 : URA M) (H : Heap 𝓤) (A : Atoms 𝓤) (W : Given
       -- the result, of the event and that number
       rewrite ! 11 (λ (x : Val). ‵ (fat fullShare S′.mir l₄ 0 x)) (ap only told) refl $ rewrite ! 2 (λ (x : List Val). ‵ (S.the-row .own t x)) told refl $
       sets ! (agg ! (and-then ! (var ! 11 refl) (and-then ! (var ! 3 refl) (no-more !))))
-      (init ! 19 refl (tt, (subst WT (ap only told) (LL.lawful S.the-type S′.the-laws 𝓤 H A W .typed t _ is .0 .1), (record { fits = is′ .1 .1 .1 .0 .1 }, tt)))) $
+      (init ! 19 refl (
+        tt,
+        (
+          subst WT (ap only told) (LL.lawful S.the-type S′.the-laws 𝓤 H A W .typed t _ is .0 .1),
+          (record { fits = is′ .1 .1 .1 .0 .1 }, tt),
+        ),
+      )) $
       returns ! (look ! 19 refl) $ forget ! 3 refl $ forget ! 5 refl $ forget ! 7 refl $ forget ! 9 refl $ forget ! 11 refl $ forget ! 13 refl $ forget ! 15 refl $
       forget ! 17 refl $ forget ! 19 refl $ move ! (19 ∷ 20 ∷ []) $ free1 ! $ move ! (17 ∷ 18 ∷ []) $ free1 ! $ move ! (15 ∷ 16 ∷ []) $ free1 ! $
       move ! (13 ∷ 14 ∷ []) $ free1 ! $ move ! (11 ∷ 12 ∷ []) $ free1 ! $ move ! (9 ∷ 10 ∷ []) $ free1 ! $ move ! (7 ∷ 8 ∷ []) $ free1 ! $
-      move ! (5 ∷ 6 ∷ []) $ free1 ! $ move ! (3 ∷ 4 ∷ []) $ free1 ! $ free0 ! $ move ! (1 ∷ []) $ drop ! $ by ! (exits t (m .at) e (f .1) (is′ .1 .1 .1 .0 .1)))))))))))))))
+      move ! (5 ∷ 6 ∷ []) $ free1 ! $ move ! (3 ∷ 4 ∷ []) $ free1 ! $ free0 ! $
+      move ! (1 ∷ []) $ drop ! $ by ! (exits t (m .at) e (f .1) (is′ .1 .1 .1 .0 .1)))))))))))))))
 
 pub next-from-spec : {M : Type 1} → stated.statement M
 unfolding code.routine tablesOf
 next-from-spec 𝓤 H 𝓜 𝓖 𝓡 =
-    let yields = cited 𝓤 H (Yields 𝓤 H (𝓖 .A) (𝓜 .mem) (𝓡 .run)) 𝓜 𝓡 code.env #reader·event event-def.routine code.calls-reader·event (event-thm.met 𝓤 H 𝓜 𝓖 𝓡) in
+    let yields = cited 𝓤 H (Yields 𝓤 H (𝓖 .A) (𝓜 .mem) (𝓡 .run)) 𝓜 𝓡 code.env #reader·event event-def.routine code.calls-reader·event
+    (event-thm.met 𝓤 H 𝓜 𝓖 𝓡) in
     let moves = cited 𝓤 H (Moved 𝓤 H (𝓖 .A) (𝓜 .mem) (𝓡 .run)) 𝓜 𝓡 code.env #reader·moved moved-def.routine code.calls-reader·moved (moved-thm.met 𝓤 H 𝓜 𝓖 𝓡) in
     met 𝓤 H 𝓜 𝓖 𝓡 code.env #reader·next-from code.function next-from.ended (next-from.clauses 𝓤 H (𝓖 .A) (𝓜 .mem) (𝓡 .run)) (code.unfolded 𝓤 H 𝓜 𝓡)
     ((λ κs x f. refl), ((λ κs x f. refl), tt)) (λ κs. (slice-vals, (uint-vals w64, tt))) (λ κs. (shr-slice-tells (named 0) (κs .0) u8, (uint-tells w64, tt)))

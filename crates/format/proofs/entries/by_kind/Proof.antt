@@ -7,72 +7,6 @@ use borrow.Author.Needs.{needs}
 use Rattle.format.proofs.entries.by_kind.Statement.{statement}
 use Rattle.format.proofs.entries.by_kind.Tie as tie
 
-no-raw-requires : tie.Need-no-raw-requires
-no-raw-requires c κs = search needs
-
-no-air-requires : tie.Need-no-air-requires
-no-air-requires c κs = search needs
-
-both-requires : tie.Need-both-requires
-both-requires c κs = search needs
-
-known-if-requires : tie.Need-known-if-requires
-known-if-requires c κs = search needs
-
-no-cylinder-requires : tie.Need-no-cylinder-requires
-no-cylinder-requires c κs = search needs
-
-no-air-requires-2 : tie.Need-no-air-requires-2
-no-air-requires-2 c κs = search needs
-
-both-requires-2 : tie.Need-both-requires-2
-both-requires-2 c κs = search needs
-
-known-if-requires-2 : tie.Need-known-if-requires-2
-known-if-requires-2 c κs = search needs
-
-measured-requires : tie.Need-measured-requires
-measured-requires c κs = search needs
-
-reference-only-requires : tie.Need-reference-only-requires
-reference-only-requires c κs = search needs
-
-known-if-requires-3 : tie.Need-known-if-requires-3
-known-if-requires-3 c κs = search needs
-
-no-fields-requires : tie.Need-no-fields-requires
-no-fields-requires c κs = search needs
-
-known-if-requires-4 : tie.Need-known-if-requires-4
-known-if-requires-4 c κs = search needs
-
-no-cylinder-requires-2 : tie.Need-no-cylinder-requires-2
-no-cylinder-requires-2 c κs = search needs
-
-measured-requires-2 : tie.Need-measured-requires-2
-measured-requires-2 c κs = search needs
-
-known-if-requires-5 : tie.Need-known-if-requires-5
-known-if-requires-5 c κs = search needs
-
-no-fields-requires-2 : tie.Need-no-fields-requires-2
-no-fields-requires-2 c κs = search needs
-
-known-if-requires-6 : tie.Need-known-if-requires-6
-known-if-requires-6 c κs = search needs
-
-no-fields-requires-3 : tie.Need-no-fields-requires-3
-no-fields-requires-3 c κs = search needs
-
-known-if-requires-7 : tie.Need-known-if-requires-7
-known-if-requires-7 c κs = search needs
-
-no-fields-requires-4 : tie.Need-no-fields-requires-4
-no-fields-requires-4 c κs = search needs
-
-known-if-requires-8 : tie.Need-known-if-requires-8
-known-if-requires-8 c κs = search needs
-
 returns : tie.Need-returns
 returns c =
     let b = c .before .before in
@@ -117,35 +51,8 @@ pub by-kind-spec : {M : Type 1} → statement M
 by-kind-spec =
     tie.close
     (tie.spec
-    no-raw-requires
-    no-air-requires
-    both-requires
-    known-if-requires
-    no-cylinder-requires
-    no-air-requires-2
-    both-requires-2
-    known-if-requires-2
-    measured-requires
-    reference-only-requires
-    known-if-requires-3
-    no-fields-requires
-    known-if-requires-4
-    no-cylinder-requires-2
-    measured-requires-2
-    known-if-requires-5
-    no-fields-requires-2
-    known-if-requires-6
-    no-fields-requires-3
-    known-if-requires-7
-    no-fields-requires-4
-    known-if-requires-8
-    returns
-    returns-2
-    returns-3
-    returns-4
-    returns-5
-    returns-6
-    returns-7
-    returns-8
-    returns-9
-    returns-10)
+    (λ c κs. search needs) (λ c κs. search needs) (λ c κs. search needs) (λ c κs. search needs) (λ c κs. search needs) (λ c κs. search needs)
+    (λ c κs. search needs) (λ c κs. search needs) (λ c κs. search needs) (λ c κs. search needs) (λ c κs. search needs) (λ c κs. search needs)
+    (λ c κs. search needs) (λ c κs. search needs) (λ c κs. search needs) (λ c κs. search needs) (λ c κs. search needs) (λ c κs. search needs)
+    (λ c κs. search needs) (λ c κs. search needs) (λ c κs. search needs) (λ c κs. search needs) returns returns-2 returns-3 returns-4 returns-5
+    returns-6 returns-7 returns-8 returns-9 returns-10)

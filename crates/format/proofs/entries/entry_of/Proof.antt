@@ -5,9 +5,6 @@ use borrow.Author.Needs.{needs}
 use Rattle.format.proofs.entries.entry_of.Statement.{statement}
 use Rattle.format.proofs.entries.entry_of.Tie as tie
 
-by-kind-requires : tie.Need-by-kind-requires
-by-kind-requires c κs = search needs
-
 returns : tie.Need-returns
 unfolding entryOf
 returns c = rw (eq-eqb _ _ (c .before .if1 .taken), c .by-kind .ensures)
@@ -17,4 +14,4 @@ unfolding entryOf
 returns-2 c = rw (ne-eqb _ _ (c .if1 .left))
 
 pub entry-of-spec : {M : Type 1} → statement M
-entry-of-spec = tie.close (tie.spec by-kind-requires returns returns-2)
+entry-of-spec = tie.close (tie.spec (λ c κs. search needs) returns returns-2)

@@ -3,14 +3,8 @@ use borrow.Author.Needs.{needs}
 use Rattle.format.proofs.entries.no_air.Statement.{statement}
 use Rattle.format.proofs.entries.no_air.Tie as tie
 
-both-requires : tie.Need-both-requires
-both-requires c κs = search needs
-
-both-requires-2 : tie.Need-both-requires-2
-both-requires-2 c κs = search needs
-
 returns : tie.Need-returns
 returns c = rw (c .both2 .ensures, c .before .before .both .ensures)
 
 pub no-air-spec : {M : Type 1} → statement M
-no-air-spec = tie.close (tie.spec both-requires both-requires-2 returns)
+no-air-spec = tie.close (tie.spec (λ c κs. search needs) (λ c κs. search needs) returns)

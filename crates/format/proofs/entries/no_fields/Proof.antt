@@ -3,21 +3,6 @@ use borrow.Author.Needs.{needs}
 use Rattle.format.proofs.entries.no_fields.Statement.{statement}
 use Rattle.format.proofs.entries.no_fields.Tie as tie
 
-no-raw-requires : tie.Need-no-raw-requires
-no-raw-requires c κs = search needs
-
-no-cylinder-requires : tie.Need-no-cylinder-requires
-no-cylinder-requires c κs = search needs
-
-both-requires : tie.Need-both-requires
-both-requires c κs = search needs
-
-no-air-requires : tie.Need-no-air-requires
-no-air-requires c κs = search needs
-
-both-requires-2 : tie.Need-both-requires-2
-both-requires-2 c κs = search needs
-
 returns : tie.Need-returns
 returns c =
     let b = c .before .before in
@@ -27,9 +12,4 @@ pub no-fields-spec : {M : Type 1} → statement M
 no-fields-spec =
     tie.close
     (tie.spec
-    no-raw-requires
-    no-cylinder-requires
-    both-requires
-    no-air-requires
-    both-requires-2
-    returns)
+    (λ c κs. search needs) (λ c κs. search needs) (λ c κs. search needs) (λ c κs. search needs) (λ c κs. search needs) returns)

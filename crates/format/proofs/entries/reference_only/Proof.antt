@@ -3,17 +3,8 @@ use borrow.Author.Needs.{needs}
 use Rattle.format.proofs.entries.reference_only.Statement.{statement}
 use Rattle.format.proofs.entries.reference_only.Tie as tie
 
-no-raw-requires : tie.Need-no-raw-requires
-no-raw-requires c κs = search needs
-
-both-requires : tie.Need-both-requires
-both-requires c κs = search needs
-
-both-requires-2 : tie.Need-both-requires-2
-both-requires-2 c κs = search needs
-
 returns : tie.Need-returns
 returns c = rw (c .both2 .ensures, c .before .before .both .ensures, c .before .before .before .before .no-raw .ensures)
 
 pub reference-only-spec : {M : Type 1} → statement M
-reference-only-spec = tie.close (tie.spec no-raw-requires both-requires both-requires-2 returns)
+reference-only-spec = tie.close (tie.spec (λ c κs. search needs) (λ c κs. search needs) (λ c κs. search needs) returns)

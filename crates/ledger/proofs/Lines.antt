@@ -81,7 +81,8 @@ module _ (sheets : List ℕ) (st : State) {ws : List ℤ} {xs : List Fraction} {
 
   -- ---- refused by a number of the list: the settings, the wet values and the series stay
   refusal : {entry : Entry} {next : State} (number : ℕ) (runs : Bool) → within 1 11 number ≡ true
-      → LedgerHolds g ws entry (Answer.Refused number) → Settings next → Keeps (next .integration) ws xs runs → refusedBy g entry ≡ ledgerAt next xs runs → Good sheets g ws entry (refused next number)
+      → LedgerHolds g ws entry (Answer.Refused number) → Settings next → Keeps (next .integration) ws xs runs
+      → refusedBy g entry ≡ ledgerAt next xs runs → Good sheets g ws entry (refused next number)
   unfolding ledgerStep wetsStep
   refusal number runs w l set i same =
       let r = range 1 11 number w in

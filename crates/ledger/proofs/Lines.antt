@@ -47,7 +47,8 @@ Settings st = SettingsOk (st .loaded) (st .q) (st .s) (st .mode)
 pub workable-is : (st : State) {ws : List ℤ} {xs : List Fraction} {b : Bool} → Settings st → Keeps (st .integration) ws xs b → workable st ≡ true
 unfolding workable
 workable-is st h k =
-    rw (h .sheet, le-leb (natAbs (st .q)) 20000000 (h .zero), le-leb 500000 (st .s) (h .span-low), le-leb (st .s) 2000000 (h .span-high), h .gas, keeps-within k)
+    rw (h .sheet, le-leb (natAbs (st .q)) 20000000 (h .zero), le-leb 500000 (st .s) (h .span-low), le-leb (st .s) 2000000 (h .span-high), h .gas)
+    (keeps-within k)
 
 -- ---- a state, a ledger and the wet values answered that go together
 pub record Together (st : State) (g : Ledger) (ws : List ℤ) : Type 0 where
@@ -69,7 +70,8 @@ module _ (sheets : List ℕ) (st : State) {ws : List ℤ} {xs : List Fraction} {
 
   -- ---- by the next state and the series beside it
   makes : {entry : Entry} {a : Answer} {next : State} (ys : List Fraction) (runs : Bool) → RefusalHolds a → LedgerHolds g ws entry a → Settings next
-      → Keeps (next .integration) (wetsStep b ws entry a) ys runs → ledgerStep sheets g entry a ≡ ledgerAt next ys runs → Good sheets g ws entry (answered a next)
+      → Keeps (next .integration) (wetsStep b ws entry a) ys runs → ledgerStep sheets g entry a ≡ ledgerAt next ys runs
+      → Good sheets g ws entry (answered a next)
   makes ys runs e l set i same =
       record {
         refusal = e;
@@ -78,8 +80,9 @@ module _ (sheets : List ℕ) (st : State) {ws : List ℤ} {xs : List Fraction} {
       }
 
   -- ---- refused by a number of the list: the settings, the wet values and the series stay
-  refusal : {entry : Entry} {next : State} (number : ℕ) (runs : Bool) → within 1 11 number ≡ true → LedgerHolds g ws entry (Answer.Refused number) → Settings next
-      → Keeps (next .integration) ws xs runs → refusedBy g entry ≡ ledgerAt next xs runs → Good sheets g ws entry (refused next number)
+  refusal : {entry : Entry} {next : State} (number : ℕ) (runs : Bool) → within 1 11 number ≡ true
+      → LedgerHolds g ws entry (Answer.Refused number) → Settings next → Keeps (next .integration) ws xs runs
+      → refusedBy g entry ≡ ledgerAt next xs runs → Good sheets g ws entry (refused next number)
   unfolding ledgerStep wetsStep
   refusal number runs w l set i same =
       let r = range 1 11 number w in
@@ -128,14 +131,15 @@ module _ (sheets : List ℕ) (st : State) {ws : List ℤ} {xs : List Fraction} {
   unfolding ledgerStep wetsStep
   good (refuses {event} {number} kind n) = refusal number b n (unasked event number) h k (rw kind)
   good (malformed {kind}) = malformed-good kind (eqb kind 6) refl
-  good (loads w) = makes [] false tt tt (record { sheet = w; zero = omega arith; span-low = omega arith; span-high = omega arith; gas = refl }) idle refl
+  good (loads e w) = makes [] false tt tt (record { sheet = w; zero = omega arith; span-low = omega arith; span-high = omega arith; gas = refl }) idle (rw e)
   good (zeroes n) = makes [] false tt tt (record { sheet = h .sheet; zero = n; span-low = h .span-low; span-high = h .span-high; gas = h .gas }) idle refl
   good (spans l u) = makes [] false tt tt (record { sheet = h .sheet; zero = h .zero; span-low = l; span-high = u; gas = h .gas }) idle refl
   good (refers e) = makes [] false tt tt (record { sheet = h .sheet; zero = h .zero; span-low = h .span-low; span-high = h .span-high; gas = e }) idle refl
   good absolute = makes [] false tt tt (record { sheet = h .sheet; zero = h .zero; span-low = h .span-low; span-high = h .span-high; gas = refl }) idle refl
   good (samples {at} {r} x) =
       let w = sample-worth st xs b (h .sheet) at x in
-      makes (takenAtEnd xs b (exactValue g at r)) (takenRuns xs b) tt (w .holds) h (keeps-counted k (w .near) (wet-in (h .sheet) x)) (taken-is (exactValue g at r))
+      let v = exactValue g at r in
+      makes (takenAtEnd xs b v) (takenRuns xs b) tt (w .holds) h (keeps-counted k (w .near) (wet-in (h .sheet) x)) (taken-is v)
   good (closes {number = number} n) = refusal number false n tt h (keeps-closed k) refl
   good starts = makes [] true tt tt h started refl
   good stops = makes xs false tt tt h (keeps-closed k) refl

@@ -15,7 +15,8 @@ use Rattle.reference.specs.Search.{referenceRefusal, foundValue, referenceOf}
 use Rattle.reference.proofs.Bracket.{at-reference, below-reference}
 use Rattle.exact.specs.Fraction.{Fraction, LiesWithin}
 use Rattle.exact.specs.Bounds.{againstBound}
-use Rattle.exact.proofs.Distance.{absolute-distance, absolute-dry-distance, against-distance, against-dry-distance, reference-at-least, reference-less-than, lies-weaken}
+use Rattle.exact.proofs.Distance.{absolute-distance, absolute-dry-distance, against-distance, against-dry-distance, lies-weaken}
+use Rattle.exact.proofs.Distance.{reference-at-least, reference-less-than}
 use Rattle.sampling.specs.declared.Cylinder.{Cylinder}
 use Rattle.sampling.specs.declared.Mode.{Mode}
 use Rattle.sampling.specs.declared.Measurement.{Measurement}
@@ -67,7 +68,8 @@ module _ (s : Sheet) (okS : SheetOk s) (at : Measurement) (gas : Cylinder) (okR 
 -- ---- by the mode
 module _ (st : State) (xs : List Fraction) (b : Bool) (s : Sheet) (okS : SheetOk s) (loaded : st .loaded ≡ Loaded.One s) (at : Measurement)
     {r : ℕ} {wet dry : ℤ} where
-  worth : (mode : Mode) → st .mode ≡ mode → AcceptedOn s (st .q) (st .s) mode at (searchedOf s mode (airOf at)) r wet dry → Worth (ledgerAt st xs b) at r wet dry
+  worth : (mode : Mode) → st .mode ≡ mode → AcceptedOn s (st .q) (st .s) mode at (searchedOf s mode (airOf at)) r wet dry
+      → Worth (ledgerAt st xs b) at r wet dry
   worth Mode.Absolute m x =
       let okA = input-ok at (x .input) .air in
       let near = absolute-distance s okS (airOf at) okA (at .raw) (st .q) (st .s) wet (x .wet-is) in
@@ -80,12 +82,13 @@ module _ (st : State) (xs : List Fraction) (b : Bool) (s : Sheet) (okS : SheetOk
       let okA = input-ok at (x .input) .air in
       let okR = reference-air-ok (airOf at) {gas = gas} okA (x .vapour) refl in
       let f = found-at (referenceOf s (gas .c) (referenceAir (airOf at) gas)) r (x .finding) (x .signal-is) in
+      let signal = signal-at s okS at gas okR r f in
       let low = below-k s okS at gas okR r f in
       let reads = rw f at (x .wet-is) in
       let near = against-distance s okS (airOf at) okA (at .raw) (st .q) (st .s) wet r low reads in
       let dry-near = against-dry-distance s okS (airOf at) okA (at .raw) (st .q) (st .s) wet r low reads in
       record {
-        holds = record { wet-holds = rw (loaded, m) near; dry-holds = rw (loaded, m, x .dry-is) dry-near; signal-holds = rw (loaded, m) (signal-at s okS at gas okR r f) };
+        holds = record { wet-holds = rw (loaded, m) near; dry-holds = rw (loaded, m, x .dry-is) dry-near; signal-holds = rw (loaded, m) signal };
         near = rw (loaded, m) near;
       }
 

@@ -18,7 +18,7 @@ use Rattle.exact.specs.Area.{firstOf, lastOf, sumOf, EachWithin, empty}
 use Rattle.exact.proofs.Area.{same-length, each-append}
 use Rattle.counting.specs.declared.Tally.{Tally}
 use Rattle.counting.specs.declared.Integration.{Integration}
-use Rattle.counting.specs.Integration.{emptyTally, talliedOf, countedOf, closedOf}
+use Rattle.counting.specs.Integration.{integrationLimit, emptyTally, talliedOf, countedOf, closedOf}
 use Rattle.counting.specs.Limits.{integrationWithin}
 use Rattle.engine.proofs.Cases.{Tallied, in-running, in-closed}
 
@@ -46,31 +46,34 @@ sum-append (a ∷ ws) w = ap (λ (z : ℤ). a +ℤ z) (sum-append ws w) ∙ sym 
 tallied : (ws : List ℤ) (w : ℤ) → talliedOf (tallyOf ws) w ≡ tallyOf (ws ++ (w ∷ []))
 tallied ws w =
     let l : length ws + 1 ≡ length (ws ++ (w ∷ [])) = omega (arith, length-append ws (w ∷ [])) in
-    rw (first-append ws w, l, sym (sum-append ws w)) (ap (λ (z : ℤ). record { n = length (ws ++ (w ∷ [])); first = firstOf (pos 0) (ws ++ (w ∷ [])); last = z; sum = sumOf (ws ++ (w ∷ [])) }) (sym (last-append ws w)))
+    let f = first-append ws w in
+    let e = last-append ws w in
+    let s = sum-append ws w in
+    cc
 
 -- ---- wet values of at most 3,000,000,000
-pub data Small : List ℤ → Type 0 where
-  none : Small []
-  more : {w : ℤ} {ws : List ℤ} → natAbs w ≤ 3000000000 → Small ws → Small (w ∷ ws)
+pub data EachSmall : List ℤ → Type 0 where
+  none : EachSmall []
+  more : {w : ℤ} {ws : List ℤ} → natAbs w ≤ 3000000000 → EachSmall ws → EachSmall (w ∷ ws)
 
-small-append : {ws : List ℤ} (w : ℤ) → Small ws → natAbs w ≤ 3000000000 → Small (ws ++ (w ∷ []))
+small-append : {ws : List ℤ} (w : ℤ) → EachSmall ws → natAbs w ≤ 3000000000 → EachSmall (ws ++ (w ∷ []))
 small-append w none h = more h none
 small-append w (more g r) h = more g (small-append w r h)
 
-small-at : {ws : List ℤ} → Small ws → (i : ℕ) → natAbs (getD ws i (pos 0)) ≤ 3000000000
+small-at : {ws : List ℤ} → EachSmall ws → (i : ℕ) → natAbs (getD ws i (pos 0)) ≤ 3000000000
 small-at none i = omega arith
 small-at (more h r) zero = h
 small-at (more h r) (suc i) = small-at r i
 
-small-sum : {ws : List ℤ} → Small ws → natAbs (sumOf ws) ≤ length ws * 3000000000
+small-sum : {ws : List ℤ} → EachSmall ws → natAbs (sumOf ws) ≤ length ws * 3000000000
 small-sum none = omega arith
 small-sum (more {w} {ws} h r) = omega (arith, abs-add w (sumOf ws), small-sum r)
 
 -- ---- the integration beside the wet values answered and the series
 pub data Keeps : Integration → List ℤ → List Fraction → Bool → Type 0 where
   idle : Keeps Integration.Idle [] [] false
-  running : {ws : List ℤ} {xs : List Fraction} → EachWithin ws xs → Small ws → length ws < 600000 → Keeps (Integration.Running (tallyOf ws)) ws xs true
-  closed : {ws : List ℤ} {xs : List Fraction} → EachWithin ws xs → Small ws → length ws ≤ 600000 → Keeps (Integration.Closed (tallyOf ws)) ws xs false
+  running : {ws : List ℤ} {xs : List Fraction} → EachWithin ws xs → EachSmall ws → length ws < integrationLimit → Keeps (Integration.Running (tallyOf ws)) ws xs true
+  closed : {ws : List ℤ} {xs : List Fraction} → EachWithin ws xs → EachSmall ws → length ws ≤ integrationLimit → Keeps (Integration.Closed (tallyOf ws)) ws xs false
 
 pub started : Keeps (Integration.Running emptyTally) [] [] true
 started = running empty none (omega arith)
@@ -80,8 +83,8 @@ keeps-closed idle = idle
 keeps-closed (running e r l) = closed e r (le-of-lt l)
 keeps-closed (closed e r l) = closed e r l
 
-module _ {ws : List ℤ} {xs : List Fraction} (e : EachWithin ws xs) (r : Small ws) where
-  after : (t : Bool) → (t ≡ false → length ws < 600000) → length ws ≤ 600000
+module _ {ws : List ℤ} {xs : List Fraction} (e : EachWithin ws xs) (r : EachSmall ws) where
+  after : (t : Bool) → (t ≡ false → length ws < integrationLimit) → length ws ≤ integrationLimit
       → Keeps (cond t (Integration.Closed (tallyOf ws)) (Integration.Running (tallyOf ws))) ws xs (not t)
   after true h l = closed e r l
   after false h l = running e r (h refl)
@@ -91,29 +94,31 @@ abbrev pub takenAtEnd : {A : Type 0} → List A → Bool → A → List A
 takenAtEnd xs b x = cond b (xs ++ (x ∷ [])) xs
 
 abbrev pub takenRuns : List Fraction → Bool → Bool
-takenRuns xs b = cond b (not (eqb (length xs + 1) 600000)) false
+takenRuns xs b = cond b (not (eqb (length xs + 1) integrationLimit)) false
 
-pub keeps-counted : {i : Integration} {ws : List ℤ} {xs : List Fraction} {b : Bool} {w : ℤ} {x : Fraction} → Keeps i ws xs b → LiesWithin w againstBound x → natAbs w ≤ 3000000000
-    → Keeps (countedOf i w) (takenAtEnd ws b w) (takenAtEnd xs b x) (takenRuns xs b)
+pub keeps-counted : {i : Integration} {ws : List ℤ} {xs : List Fraction} {b : Bool} {w : ℤ} {x : Fraction} → Keeps i ws xs b
+    → LiesWithin w againstBound x → natAbs w ≤ 3000000000 → Keeps (countedOf i w) (takenAtEnd ws b w) (takenAtEnd xs b x) (takenRuns xs b)
 keeps-counted idle n h = idle
 keeps-counted (closed e r l) n h = closed e r l
 keeps-counted {ws = ws} {w = w} (running e r l) n h =
     let m : length (ws ++ (w ∷ [])) ≡ length ws + 1 = length-append ws (w ∷ []) in
     rw (tallied ws w, ← same-length e)
-    (after (each-append e n) (small-append w r h) (eqb (length ws + 1) 600000)
-    (λ t. let f : length ws + 1 ≡ 600000 → ⊥ = eqb-false _ _ t in omega arith) (omega arith))
+    (after (each-append e n) (small-append w r h) (eqb (length ws + 1) integrationLimit)
+    (λ t. let f : length ws + 1 ≡ integrationLimit → ⊥ = eqb-false _ _ t in omega arith) (omega arith))
 
 -- ---- such an integration is within what the code can work with
-tally-within : (ws : List ℤ) → Small ws → length ws ≤ 600000 → integrationWithin (Integration.Closed (tallyOf ws)) ≡ true
+tally-within : (ws : List ℤ) → EachSmall ws → length ws ≤ integrationLimit → integrationWithin (Integration.Closed (tallyOf ws)) ≡ true
 tally-within ws r l =
-    rw (le-leb (length ws) 600000 l, le-leb _ 3000000000 (small-at r 0), le-leb _ 3000000000 (small-at r (length ws - 1)), le-leb (natAbs (sumOf ws)) 1800000000000000 (omega (arith, small-sum r)))
+    rw (le-leb (length ws) integrationLimit l, le-leb _ 3000000000 (small-at r 0), le-leb _ 3000000000 (small-at r (length ws - 1)))
+    (le-leb (natAbs (sumOf ws)) 1800000000000000 (omega (arith, small-sum r)))
 
 pub keeps-within : {i : Integration} {ws : List ℤ} {xs : List Fraction} {b : Bool} → Keeps i ws xs b → integrationWithin i ≡ true
 keeps-within idle = refl
-keeps-within {ws = ws} (running e r l) = rw (tally-within ws r (le-of-lt l), lt-ltb (length ws) 600000 l)
+keeps-within {ws = ws} (running e r l) = rw (tally-within ws r (le-of-lt l), lt-ltb (length ws) integrationLimit l)
 keeps-within {ws = ws} (closed e r l) = tally-within ws r l
 
 -- its tally, where it has one
-pub keeps-tally : {i : Integration} {ws : List ℤ} {xs : List Fraction} {b : Bool} {t : Tally} → Keeps i ws xs b → Tallied i t → (t ≡ tallyOf ws) × EachWithin ws xs
+pub keeps-tally : {i : Integration} {ws : List ℤ} {xs : List Fraction} {b : Bool} {t : Tally} → Keeps i ws xs b → Tallied i t
+    → (t ≡ tallyOf ws) × EachWithin ws xs
 keeps-tally (running e r l) in-running = (refl, e)
 keeps-tally (closed e r l) in-closed = (refl, e)

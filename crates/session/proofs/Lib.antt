@@ -1,6 +1,5 @@
 pub mod Fits
 pub mod Transcript
-pub mod Emitting
 pub mod Turn
 pub mod Outcome
 pub mod Printing

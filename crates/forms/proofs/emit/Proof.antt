@@ -1,10 +1,10 @@
--- `session::forms::emit` meets its contract, form by form. Assumes nothing.
+-- `forms::emit` meets its contract, form by form. Assumes nothing.
 use native.Mathlib.Omega.{arith}
 use borrow.Author.Needs.{needs}
 use Rattle.layout.proofs.RoundTrips.{length-answer}
-use Rattle.session.proofs.Emitting.{records-are, lines-are}
-use Rattle.session.proofs.forms.emit.Statement.{statement}
-use Rattle.session.proofs.forms.emit.Tie as tie
+use Rattle.forms.proofs.Emitting.{records-are, lines-are}
+use Rattle.forms.proofs.emit.Statement.{statement}
+use Rattle.forms.proofs.emit.Tie as tie
 
 record-of-requires : tie.Need-record-of-requires
 record-of-requires c κs = search needs

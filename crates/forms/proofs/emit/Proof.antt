@@ -63,17 +63,5 @@ returns-2 c =
 
 pub emit-spec : {M : Type 1} → statement M
 emit-spec =
-    tie.close
-    (tie.spec
-    record-of-requires
-    enum-told
-    put-answer-requires
-    add-result
-    enum-told-2
-    cast-put-line
-    add-put-line
-    put-line-requires
-    same-length
-    returns
-    same-length-2
-    returns-2)
+    tie.close (tie.spec record-of-requires enum-told put-answer-requires add-result enum-told-2 cast-put-line add-put-line put-line-requires
+    same-length returns same-length-2 returns-2)

@@ -15,7 +15,7 @@ use Rattle.layout.specs.Records.{answerAt}
 use Rattle.engine.specs.declared.Answer.{Answer}
 use Rattle.format.specs.Header.{eventCount, wellFormed}
 use Rattle.engine.specs.Transcript.{Line, recordOf, recordWith}
-use Rattle.session.specs.declared.forms.Form.{Form}
+use Rattle.forms.specs.declared.Form.{Form}
 use Rattle.session.specs.Run.{FillsAs}
 use Rattle.ledger.proofs.Fits.{Fit}
 use Rattle.doubles.specs.Doubles.{hostSample, hostArea, hostSampleIn, hostAreaIn}

@@ -15,9 +15,9 @@ use Rattle.ledger.specs.Example.{exampleSheets, exampleEntries, exampleRows}
 use Rattle.ledger.proofs.Example.{example}
 use Rattle.format.specs.Header.{wellFormed}
 use Rattle.format.specs.Entries.{entryOf}
-use Rattle.session.specs.declared.forms.Form.{Form}
+use Rattle.forms.specs.declared.Form.{Form}
 use Rattle.session.specs.Transcript.{entriesOf, transcriptOf}
-use Rattle.session.specs.Forms.{emittedFrom}
+use Rattle.forms.specs.Forms.{emittedFrom}
 use Rattle.session.specs.Text.{printedOf}
 use Rattle.claims.specs.Example.{exampleFile, exampleText, ExamplePrinted}
 

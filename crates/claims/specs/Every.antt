@@ -10,7 +10,7 @@ use Rattle.layout.specs.Fields.{AreBytes}
 use Rattle.engine.specs.declared.Answer.{Answer}
 use Rattle.format.specs.Header.{eventCount, wellFormed}
 use Rattle.engine.specs.Transcript.{Line}
-use Rattle.session.specs.declared.forms.Form.{Form}
+use Rattle.forms.specs.declared.Form.{Form}
 use Rattle.session.specs.Run.{FillsAs}
 use Rattle.doubles.specs.declared.HostAnswer.{HostAnswer}
 use Rattle.doubles.specs.Doubles.{doubleOf, Whole, hostSampleIn, hostAreaIn}

@@ -1,7 +1,7 @@
 // The functions that C calls. A slice is a pointer and a length; none of them asks anything of what it is lent.
 ghost use mathlib.Core.Path.{_≡_};
 ghost use lib.ListN.{getD};
-ghost use Rattle.session.specs.declared.forms.Form.{Form};
+ghost use Rattle.forms.specs.declared.Form.{Form};
 ghost use Rattle.session.specs.Run.{FillsAs};
 ghost use Rattle.doubles.specs.Doubles.{hostRefusal, hostValues, hostSampleIn, hostAreaIn};
 use doubles::HostAnswer;

@@ -10,7 +10,7 @@ use Rattle.layout.specs.Lent.{Puts}
 use Rattle.text.specs.Line.{decimal, signedDecimal, lineOf, lineRoom}
 use Rattle.format.specs.Header.{wellFormed}
 use Rattle.format.proofs.Shape.{shape}
-use Rattle.session.specs.declared.forms.Form.{Form}
+use Rattle.forms.specs.declared.Form.{Form}
 use Rattle.session.specs.Run.{FillsAs}
 use Rattle.session.specs.Text.{refusedLine, linesOf, printedOf}
 use Rattle.session.proofs.Outcome.{status-0, served}

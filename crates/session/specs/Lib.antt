@@ -1,4 +1,3 @@
 pub mod Transcript
-pub mod Forms
 pub mod Run
 pub mod Text

@@ -6,8 +6,13 @@ use lib.Dec.{leb}
 use lib.ListN.{length}
 use Rattle.layout.specs.Lent.{Fills}
 use Rattle.format.specs.Header.{wellFormed, eventCount}
-use Rattle.session.specs.declared.forms.Form.{Form}
-use Rattle.session.specs.Forms.{roomOf, emittedOf}
+use Rattle.forms.specs.declared.Form.{Form}
+use Rattle.forms.specs.Forms.{roomOf, emittedFrom}
+use Rattle.session.specs.Transcript.{transcriptOf}
+
+-- what is put of a file: a piece for each line of its transcript, ordinals from 1
+abbrev pub emittedOf : Form → List ℕ → List ℕ
+emittedOf form file = emittedFrom form 1 (transcriptOf file)
 
 -- refusal 12 before refusal 13: the buffer is shorter than the form's room × event count
 unfoldable pub statusAs : Form → List ℕ → ℕ → ℕ

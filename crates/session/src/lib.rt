@@ -1,4 +1,3 @@
 // A session file run: its events answered in turn, as records and as lines.
-pub mod forms;
 pub mod print;
 pub mod run;

@@ -6,9 +6,9 @@ ghost use Rattle.layout.specs.Lent.{Puts};
 ghost use Rattle.text.specs.Line.{lineRoom};
 ghost use Rattle.session.specs.Run.{FillsAs};
 ghost use Rattle.session.specs.Text.{refusedLine, printedOf};
-use crate::forms::Form;
 use crate::run::Ran;
 use crate::run::fill;
+use forms::Form;
 use layout::AnswerRecord;
 use text::put_line;
 

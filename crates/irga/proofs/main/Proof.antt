@@ -35,14 +35,5 @@ returns c = search needs
 
 pub main-spec : {M : Type 1} → statement M
 main-spec =
-    tie.close
-    (tie.spec
-    slice-aggregate-read-full
-    read-full-requires
-    array-share-prefix-input
-    slice-aggregate-print
-    print-requires
-    array-share-prefix-text
-    slice-aggregate-write-all
-    write-all-requires
-    returns)
+    tie.close (tie.spec slice-aggregate-read-full read-full-requires array-share-prefix-input slice-aggregate-print print-requires
+    array-share-prefix-text slice-aggregate-write-all write-all-requires returns)

@@ -1,5 +1,5 @@
-// What is put of each event, in each form. The loop of `run` asks here, once for an event: another form is another case of these two
-// functions.
+// What is put of each event of a session file, in each form. The loop of `session` asks here, once for an event: another form is another
+// case of `room_of` and `emit`.
 ghost use mathlib.Core.Path.{_≡_};
 ghost use Prim.Native.Nat.{_+_, _≤_, _<_};
 ghost use lib.ListN.{length};
@@ -7,7 +7,7 @@ ghost use Rattle.layout.specs.Lent.{Puts};
 ghost use Rattle.engine.specs.Answer.{mOf};
 ghost use Rattle.engine.specs.Transcript.{lineAt, recordWith};
 ghost use Rattle.format.specs.Entries.{entryOf};
-ghost use Rattle.session.specs.Forms.{emitted, roomOf};
+ghost use Rattle.forms.specs.Forms.{emitted, roomOf};
 use engine::Answer;
 use engine::State;
 use engine::Stepped;
@@ -23,7 +23,7 @@ pub enum Form {
 }
 
 // The room that an event asks.
-pub(crate) fn room_of(form: Form) -> usize
+pub fn room_of(form: Form) -> usize
     ensures { λ r. ⌜ r ≡ roomOf form ⌝ }
 {
     match form {
@@ -34,7 +34,7 @@ pub(crate) fn room_of(form: Form) -> usize
 
 // Puts what a form has of event i, counted from 0, and answers the position past it: the event found the engine at `before`, and gave
 // `next`.
-pub(crate) fn emit(
+pub fn emit(
     form: Form,
     out: &mut [u8],
     at: usize,

@@ -5,8 +5,7 @@ use mathlib.Core.List.{List, [], _∷_, _++_}
 use Rattle.layout.specs.Records.{answerBytes}
 use Rattle.text.specs.Line.{lineOf, lineRoom}
 use Rattle.engine.specs.Transcript.{Line, recordOf}
-use Rattle.session.specs.declared.forms.Form.{Form}
-use Rattle.session.specs.Transcript.{transcriptOf}
+use Rattle.forms.specs.declared.Form.{Form}
 
 -- what is put of one event
 abbrev pub emitted : Form → ℕ → Line → List ℕ
@@ -23,10 +22,7 @@ abbrev pub emittedFrom : Form → ℕ → List Line → List ℕ
 emittedFrom form ordinal [] = []
 emittedFrom form ordinal (l ∷ ls) = emitted form ordinal l ++ emittedFrom form (ordinal + 1) ls
 
+-- and the room that the list asks
 abbrev pub roomFrom : Form → List Line → ℕ
 roomFrom form [] = 0
 roomFrom form (l ∷ ls) = roomOf form + roomFrom form ls
-
--- of a file, ordinals from 1
-abbrev pub emittedOf : Form → List ℕ → List ℕ
-emittedOf form file = emittedFrom form 1 (transcriptOf file)

@@ -13,9 +13,9 @@ use Rattle.engine.specs.declared.State.{State}
 use Rattle.engine.specs.declared.Stepped.{Stepped}
 use Rattle.engine.specs.Transcript.{Line, lineAt, recordOf, recordWith}
 use Rattle.format.specs.Entries.{entryOf}
-use Rattle.session.specs.declared.forms.Form.{Form}
-use Rattle.session.specs.Forms.{emitted, roomOf, roomFrom}
-use Rattle.session.proofs.Transcript.{kind-kept}
+use Rattle.forms.specs.declared.Form.{Form}
+use Rattle.forms.specs.Forms.{emitted, roomOf, roomFrom}
+use Rattle.forms.proofs.KindByte.{kind-kept}
 
 module _ (st : State) (event : EventRecord) (next : Stepped) {a : AnswerRecord} (e : a ≡ recordWith (event .kind) (next .answer)) where
   record-is : recordOf (lineAt st (entryOf event) next) ≡ a

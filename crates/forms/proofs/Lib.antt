@@ -1,0 +1,2 @@
+pub mod KindByte
+pub mod Emitting

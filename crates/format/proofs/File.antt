@@ -10,7 +10,7 @@ use Rattle.layout.specs.declared.SheetRecord.{SheetRecord}
 use Rattle.layout.specs.declared.EventRecord.{EventRecord}
 use Rattle.layout.specs.Fields.{AreBytes, bytesOf, wordsBytes, u32Bytes}
 use Rattle.layout.specs.Records.{recordAt, sheetOf, sheetBytes, eventOf, eventBytes}
-use Rattle.layout.proofs.Numbers.{number-bytes, bytes-number}
+use Rattle.fields.proofs.Numbers.{number-bytes, bytes-number}
 use Rattle.layout.proofs.RoundTrips.{length-record, record-below, length-sheet, sheet-read, sheet-fits, sheet-written}
 use Rattle.layout.proofs.RoundTrips.{length-event, event-read, event-fits, event-written}
 use Rattle.format.specs.Header.{sheetCount, eventCount, recordsFrom, sheetRecordsOf, eventsOf}

@@ -1,5 +1,4 @@
 // The printed lines of a session file, as document 01's program writes them.
-ghost use mathlib.Core.Path.{_≡_};
 ghost use Prim.Native.Nat.{_≤_};
 ghost use lib.ListN.{length};
 ghost use Rattle.layout.specs.Lent.{Puts};

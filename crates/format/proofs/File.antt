@@ -21,7 +21,7 @@ use Rattle.format.proofs.Shape.{Shape, shape, formed}
 -- ---- records of 24 bytes one after the other, whatever they are
 
 module _ {A : Type 0} (read : List ℕ → A) where
-  length-records : (s : List ℕ) (at count : ℕ) → length (recordsFrom read s at count) ≡ count
+  pub length-records : (s : List ℕ) (at count : ℕ) → length (recordsFrom read s at count) ≡ count
   length-records s at zero = refl
   length-records s at (suc count) = ap suc (length-records s (at + 24) count)
 

@@ -17,15 +17,6 @@ sheet = record { a1 = 142000000; a2 = 22580000; a3 = 1787000; t0 = 31335; k = 19
 abbrev air : Air
 air = record { p = 101300; t = 31335; e = 0 }
 
-absolute-requires : tie.Need-absolute-requires
-absolute-requires c κs = search needs
-
-enum-known-c : tie.Need-enum-known-c
-enum-known-c c = search needs
-
-returns : tie.Need-returns
-returns c = search needs
-
 returns-2 : tie.Need-returns-2
 returns-2 c =
     let s = c .before .before .before .before in
@@ -35,4 +26,4 @@ returns-2 c =
     rw (toZ-ofZ r) (value-size sheet air (omega arith) (omega arith) (accepted sheet (s .args .v) air (c .before .c .given .0 .0) q))
 
 pub table-reading-spec : {M : Type 1} → statement M
-table-reading-spec = tie.close (tie.spec absolute-requires enum-known-c returns returns-2)
+table-reading-spec = tie.close (tie.spec (λ c κs. search needs) (λ c. search needs) (λ c. search needs) returns-2)

@@ -27,9 +27,6 @@ of-z c = of-k (c .before .before)
 abbrev of-c : tie.After-wet → tie.Start
 of-c c = of-z (c .before .before .before)
 
-below-zero-requires : tie.Need-below-zero-requires
-below-zero-requires c κs = search needs
-
 -- each test, in the parameters' terms
 below : (c : tie.After-below-zero) → ltZ (c .before .args .v) (pos 0) ≡ c .below-zero .result
 below c = let fv = c .before .fits .v in sym (simp toZ-ofZ at (c .below-zero .ensures))
@@ -37,9 +34,6 @@ below c = let fv = c .before .fits .v in sym (simp toZ-ofZ at (c .below-zero .en
 returns : tie.Need-returns
 unfolding absoluteOf
 returns c = rw (below (c .before) ∙ c .if1 .taken)
-
-above-requires : tie.Need-above-requires
-above-requires c κs = search needs
 
 high : (c : tie.After-above) → ltZ (pos 150000000) (c .before .before .before .args .v) ≡ c .above .result
 high c = let fv = c .before .before .before .fits .v in sym (simp toZ-ofZ at (c .above .ensures))
@@ -72,9 +66,6 @@ reduced-requires c κs =
 
 z-is : (c : tie.After-reduced) → c .reduced .result ≡ reducedOf (of-z c .args .v) (of-z c .args .a)
 z-is c = let fv = of-z c .fits .v in simp toZ-ofZ at (c .reduced .ensures)
-
-above-requires-2 : tie.Need-above-requires-2
-above-requires-2 c κs = search needs
 
 z-high : (c : tie.After-above2) → let s = of-z (c .before) in ltZ (pos 100000000) (reducedOf (s .args .v) (s .args .a)) ≡ c .above2 .result
 z-high c =
@@ -110,9 +101,6 @@ c-is c =
     let fz : SFits w64 (c .before .before .before .reduced .result) = search needs in
     rw (z-is (c .before .before .before)) at (simp toZ-ofZ at (c .wet .ensures))
 
-above-requires-3 : tie.Need-above-requires-3
-above-requires-3 c κs = search needs
-
 c-high : (c : tie.After-above3) → ltZ (pos 3000000000) (c .before .wet .result) ≡ c .above3 .result
 c-high c = let fc : SFits w64 (c .before .wet .result) = search needs in sym (simp toZ-ofZ at (c .above3 .ensures))
 
@@ -132,5 +120,7 @@ returns-6 c =
 
 pub absolute-spec : {M : Type 1} → statement M
 absolute-spec =
-    tie.close (tie.spec below-zero-requires returns above-requires returns-2 at-least-requires returns-3 reduced-requires above-requires-2
-    returns-4 wet-requires above-requires-3 returns-5 returns-6)
+    tie.close
+    (tie.spec
+    (λ c κs. search needs) returns (λ c κs. search needs) returns-2 at-least-requires returns-3 reduced-requires (λ c κs. search needs)
+    returns-4 wet-requires (λ c κs. search needs) returns-5 returns-6)

@@ -6,16 +6,10 @@ use borrow.Author.Needs.{needs}
 use Rattle.fields.proofs.i32_at.Statement.{statement}
 use Rattle.fields.proofs.i32_at.Tie as tie
 
-u32-at-requires : tie.Need-u32-at-requires
-u32-at-requires c κs = search needs
-
-i32-of-requires : tie.Need-i32-of-requires
-i32-of-requires c κs = search needs
-
 returns : tie.Need-returns
 returns c =
     let z : toZ w32 (ofZ w32 (c .i32-of .result)) ≡ c .i32-of .result = search needs in
     rw (z, c .i32-of .ensures, c .before .u32-at .ensures)
 
 pub i32-at-spec : {M : Type 1} → statement M
-i32-at-spec = tie.close (tie.spec u32-at-requires i32-of-requires returns)
+i32-at-spec = tie.close (tie.spec (λ c κs. search needs) (λ c κs. search needs) returns)

@@ -10,12 +10,6 @@ use Rattle.fields.proofs.i32_bits.Tie as tie
 cast-i64-bits : tie.Need-cast-i64-bits
 cast-i64-bits c = let f = c .fits .x in simp toZ-ofZ (sfits-widen tt f)
 
-i64-bits-requires : tie.Need-i64-bits-requires
-i64-bits-requires c κs = search needs
-
-low-word-requires : tie.Need-low-word-requires
-low-word-requires c κs = search needs
-
 returns : tie.Need-returns
 returns c =
     let f = c .before .before .fits .x in
@@ -23,4 +17,4 @@ returns c =
     rw (c .low-word .ensures, c .before .i64-bits .ensures) (simp toZ-ofZ (bits-lower _ f))
 
 pub i32-bits-spec : {M : Type 1} → statement M
-i32-bits-spec = tie.close (tie.spec cast-i64-bits i64-bits-requires low-word-requires returns)
+i32-bits-spec = tie.close (tie.spec cast-i64-bits (λ c κs. search needs) (λ c κs. search needs) returns)

@@ -6,15 +6,6 @@ use borrow.Author.Needs.{needs}
 use Rattle.fields.proofs.i32_of.Statement.{statement}
 use Rattle.fields.proofs.i32_of.Tie as tie
 
-cast-result : tie.Need-cast-result
-cast-result c = search needs
-
-sub-result : tie.Need-sub-result
-sub-result c = search needs
-
-cast-result-2 : tie.Need-cast-result-2
-cast-result-2 c = search needs
-
 returns : tie.Need-returns
 returns c = sym (signed-machine w32 _)
 
@@ -22,4 +13,4 @@ returns-2 : tie.Need-returns-2
 returns-2 c = flipped-back w32 (c .before .args .n) (search needs)
 
 pub i32-of-spec : {M : Type 1} → statement M
-i32-of-spec = tie.close (tie.spec cast-result sub-result cast-result-2 returns returns-2)
+i32-of-spec = tie.close (tie.spec (λ c. search needs) (λ c. search needs) (λ c. search needs) returns returns-2)

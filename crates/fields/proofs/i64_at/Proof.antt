@@ -8,18 +8,6 @@ use Rattle.fields.proofs.Numbers.{words-joined}
 use Rattle.fields.proofs.i64_at.Statement.{statement}
 use Rattle.fields.proofs.i64_at.Tie as tie
 
-u32-at-requires : tie.Need-u32-at-requires
-u32-at-requires c κs = search needs
-
-add-u32-at : tie.Need-add-u32-at
-add-u32-at c = search needs
-
-u32-at-requires-2 : tie.Need-u32-at-requires-2
-u32-at-requires-2 c κs = search needs
-
-i64-of-requires : tie.Need-i64-of-requires
-i64-of-requires c κs = search needs
-
 returns : tie.Need-returns
 returns c =
     let a = c .before .before .before .before .args in
@@ -27,4 +15,4 @@ returns c =
     rw (z, c .i64-of .ensures, c .before .before .u32-at .ensures, c .before .u32-at2 .ensures) (ap signed64 (words-joined (a .s .now) (a .at)))
 
 pub i64-at-spec : {M : Type 1} → statement M
-i64-at-spec = tie.close (tie.spec u32-at-requires add-u32-at u32-at-requires-2 i64-of-requires returns)
+i64-at-spec = tie.close (tie.spec (λ c κs. search needs) (λ c. search needs) (λ c κs. search needs) (λ c κs. search needs) returns)

@@ -7,21 +7,6 @@ use borrow.Author.Needs.{needs}
 use Rattle.fields.proofs.i64_of.Statement.{statement}
 use Rattle.fields.proofs.i64_of.Tie as tie
 
-mul-n : tie.Need-mul-n
-mul-n c = search needs
-
-add-n : tie.Need-add-n
-add-n c = search needs
-
-cast-result : tie.Need-cast-result
-cast-result c = search needs
-
-sub-result : tie.Need-sub-result
-sub-result c = search needs
-
-cast-result-2 : tie.Need-cast-result-2
-cast-result-2 c = search needs
-
 returns : tie.Need-returns
 returns c = sym (signed-machine w64 _)
 
@@ -29,4 +14,7 @@ returns-2 : tie.Need-returns-2
 returns-2 c = flipped-back w64 (c .before .args .low + 4294967296 * c .before .args .high) (search needs)
 
 pub i64-of-spec : {M : Type 1} → statement M
-i64-of-spec = tie.close (tie.spec mul-n add-n cast-result sub-result cast-result-2 returns returns-2)
+i64-of-spec =
+    tie.close
+    (tie.spec
+    (λ c. search needs) (λ c. search needs) (λ c. search needs) (λ c. search needs) (λ c. search needs) returns returns-2)

@@ -5,30 +5,6 @@ use borrow.Author.Needs.{needs}
 use Rattle.fields.proofs.u32_at.Statement.{statement}
 use Rattle.fields.proofs.u32_at.Tie as tie
 
-shared-slice-read-u32-of : tie.Need-shared-slice-read-u32-of
-shared-slice-read-u32-of c = search needs
-
-add-u32-of : tie.Need-add-u32-of
-add-u32-of c = search needs
-
-shared-slice-read-u32-of-2 : tie.Need-shared-slice-read-u32-of-2
-shared-slice-read-u32-of-2 c = search needs
-
-add-u32-of-2 : tie.Need-add-u32-of-2
-add-u32-of-2 c = search needs
-
-shared-slice-read-u32-of-3 : tie.Need-shared-slice-read-u32-of-3
-shared-slice-read-u32-of-3 c = search needs
-
-add-u32-of-3 : tie.Need-add-u32-of-3
-add-u32-of-3 c = search needs
-
-shared-slice-read-u32-of-4 : tie.Need-shared-slice-read-u32-of-4
-shared-slice-read-u32-of-4 c = search needs
-
-u32-of-requires : tie.Need-u32-of-requires
-u32-of-requires c κs = search needs
-
 returns : tie.Need-returns
 returns c =
     let s = c .before .before .before .before .before .before .args .s .now in
@@ -39,12 +15,5 @@ pub u32-at-spec : {M : Type 1} → statement M
 u32-at-spec =
     tie.close
     (tie.spec
-    shared-slice-read-u32-of
-    add-u32-of
-    shared-slice-read-u32-of-2
-    add-u32-of-2
-    shared-slice-read-u32-of-3
-    add-u32-of-3
-    shared-slice-read-u32-of-4
-    u32-of-requires
-    returns)
+    (λ c. search needs) (λ c. search needs) (λ c. search needs) (λ c. search needs) (λ c. search needs) (λ c. search needs)
+    (λ c. search needs) (λ c κs. search needs) returns)

@@ -5,18 +5,6 @@ use borrow.Author.Needs.{needs}
 use Rattle.fields.proofs.u32_bytes.Statement.{statement}
 use Rattle.fields.proofs.u32_bytes.Tie as tie
 
-low-requires : tie.Need-low-requires
-low-requires c κs = search needs
-
-low-requires-2 : tie.Need-low-requires-2
-low-requires-2 c κs = search needs
-
-low-requires-3 : tie.Need-low-requires-3
-low-requires-3 c κs = search needs
-
-low-requires-4 : tie.Need-low-requires-4
-low-requires-4 c κs = search needs
-
 returns : tie.Need-returns
 unfolding bytesOf
 returns c =
@@ -24,5 +12,4 @@ returns c =
     (simp div-div-eq-div-mul)
 
 pub u32-bytes-spec : {M : Type 1} → statement M
-u32-bytes-spec =
-    tie.close (tie.spec low-requires low-requires-2 low-requires-3 low-requires-4 returns)
+u32-bytes-spec = tie.close (tie.spec (λ c κs. search needs) (λ c κs. search needs) (λ c κs. search needs) (λ c κs. search needs) returns)

@@ -6,32 +6,11 @@ use Rattle.forms.proofs.Emitting.{records-are, lines-are}
 use Rattle.forms.proofs.emit.Statement.{statement}
 use Rattle.forms.proofs.emit.Tie as tie
 
-record-of-requires : tie.Need-record-of-requires
-record-of-requires c κs = search needs
-
-enum-told : tie.Need-enum-told
-enum-told c = search needs
-
 put-answer-requires : tie.Need-put-answer-requires
 put-answer-requires c κs = rw (c .before .enum-told .given .1) at (c .before .before .before .before .before .pre .1)
 
-add-result : tie.Need-add-result
-add-result c = search needs
-
-enum-told-2 : tie.Need-enum-told-2
-enum-told-2 c = search needs
-
-cast-put-line : tie.Need-cast-put-line
-cast-put-line c = search needs
-
-add-put-line : tie.Need-add-put-line
-add-put-line c = search needs
-
 put-line-requires : tie.Need-put-line-requires
 put-line-requires c κs = rw (c .before .enum-told2 .given .1) at (c .before .before .before .before .before .pre .1)
-
-same-length : tie.Need-same-length
-same-length c = search needs
 
 returns : tie.Need-returns
 returns c =
@@ -44,9 +23,6 @@ returns c =
           (record { ends = omega (arith, length-answer (r .result)); room = fit; stands = d .put-answer .ensures }),
       rw e (omega arith),
     )
-
-same-length-2 : tie.Need-same-length-2
-same-length-2 c = search needs
 
 returns-2 : tie.Need-returns-2
 returns-2 c =
@@ -63,5 +39,7 @@ returns-2 c =
 
 pub emit-spec : {M : Type 1} → statement M
 emit-spec =
-    tie.close (tie.spec record-of-requires enum-told put-answer-requires add-result enum-told-2 cast-put-line add-put-line put-line-requires
-    same-length returns same-length-2 returns-2)
+    tie.close
+    (tie.spec
+    (λ c κs. search needs) (λ c. search needs) put-answer-requires (λ c. search needs) (λ c. search needs) (λ c. search needs)
+    (λ c. search needs) put-line-requires (λ c. search needs) returns (λ c. search needs) returns-2)

@@ -6,34 +6,15 @@ use Rattle.layout.proofs.Lent.{puts-length}
 use Rattle.irga.proofs.main.Statement.{statement}
 use Rattle.irga.proofs.main.Tie as tie
 
-slice-aggregate-read-full : tie.Need-slice-aggregate-read-full
-slice-aggregate-read-full c = search needs
-
-read-full-requires : tie.Need-read-full-requires
-read-full-requires c κs = search needs
-
-array-share-prefix-input : tie.Need-array-share-prefix-input
-array-share-prefix-input c = search needs
-
-slice-aggregate-print : tie.Need-slice-aggregate-print
-slice-aggregate-print c = search needs
-
-print-requires : tie.Need-print-requires
-print-requires c κs = search needs
-
 array-share-prefix-text : tie.Need-array-share-prefix-text
 array-share-prefix-text c = let p = c .print .ensures in omega (arith, p .room, puts-length p)
 
 slice-aggregate-write-all : tie.Need-slice-aggregate-write-all
 slice-aggregate-write-all c = let p = c .before .print .ensures in simp length-take (omega (arith, p .room, puts-length p))
 
-write-all-requires : tie.Need-write-all-requires
-write-all-requires c κs = search needs
-
-returns : tie.Need-returns
-returns c = search needs
-
 pub main-spec : {M : Type 1} → statement M
 main-spec =
-    tie.close (tie.spec slice-aggregate-read-full read-full-requires array-share-prefix-input slice-aggregate-print print-requires
-    array-share-prefix-text slice-aggregate-write-all write-all-requires returns)
+    tie.close
+    (tie.spec
+    (λ c. search needs) (λ c κs. search needs) (λ c. search needs) (λ c. search needs) (λ c κs. search needs) array-share-prefix-text
+    slice-aggregate-write-all (λ c κs. search needs) (λ c. search needs))

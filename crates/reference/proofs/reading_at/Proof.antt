@@ -10,20 +10,11 @@ use Rattle.reference.specs.Sought.{SoughtOk, soughtReading}
 use Rattle.reference.proofs.reading_at.Statement.{statement}
 use Rattle.reference.proofs.reading_at.Tie as tie
 
-enum-told : tie.Need-enum-told
-enum-told c = search needs
-
 positive-requires : tie.Need-positive-requires
 positive-requires c κs =
     let s = c .before .before in
     let h = subst (λ (x : Sought). SoughtOk x (s .args .n)) (c .enum-told .given .1) (s .pre .2) in
     omega arith
-
-absolute-requires : tie.Need-absolute-requires
-absolute-requires c κs = search needs
-
-enum-known-sought : tie.Need-enum-known-sought
-enum-known-sought c = search needs
 
 from-raw-requires : tie.Need-from-raw-requires
 from-raw-requires c κs =
@@ -32,9 +23,6 @@ from-raw-requires c κs =
     let fr : SFits w64 (c .before .sought .given .0 .0) = search needs in
     let fq : SFits w64 (c .before .sought .given .0 .1 .0) = search needs in
     simp toZ-ofZ (h .0, h .1, h .3)
-
-absolute-requires-2 : tie.Need-absolute-requires-2
-absolute-requires-2 c κs = search needs
 
 returns : tie.Need-returns
 returns c =
@@ -55,5 +43,7 @@ returns-2 c =
 
 pub reading-at-spec : {M : Type 1} → statement M
 reading-at-spec =
-    tie.close (tie.spec enum-told positive-requires absolute-requires enum-known-sought from-raw-requires absolute-requires-2 returns
+    tie.close
+    (tie.spec
+    (λ c. search needs) positive-requires (λ c κs. search needs) (λ c. search needs) from-raw-requires (λ c κs. search needs) returns
     returns-2)

@@ -4,12 +4,9 @@ use Rattle.reference.specs.Search.{referenceOf}
 use Rattle.reference.proofs.reference_signal.Statement.{statement}
 use Rattle.reference.proofs.reference_signal.Tie as tie
 
-search-requires : tie.Need-search-requires
-search-requires c κs = search needs
-
 returns : tie.Need-returns
 unfolding referenceOf
 returns c = c .search .ensures
 
 pub reference-signal-spec : {M : Type 1} → statement M
-reference-signal-spec = tie.close (tie.spec search-requires returns)
+reference-signal-spec = tie.close (tie.spec (λ c κs. search needs) returns)

@@ -25,9 +25,6 @@ test s span = serves (s .args .cylinder) (readingUnder (s .args .s) (s .args .ra
 difference-requires : tie.Need-difference-requires
 difference-requires c κs = let fr = c .fits .raw in let fq = c .fits .q in simp toZ-ofZ (omega arith)
 
-at-least-requires : tie.Need-at-least-requires
-at-least-requires c κs = search needs
-
 compared : (c : tie.After-at-least) → leZ (pos 1) (c .before .before .args .raw -ℤ c .before .before .args .q) ≡ c .at-least .result
 compared c =
     let s = c .before .before in
@@ -57,12 +54,6 @@ search-requires c κs =
     let fr = s .fits .raw in
     let fq = s .fits .q in
     simp toZ-ofZ (s .pre .0, s .pre .1, s .pre .5, (s .pre .2, s .pre .3, above-zero c, omega arith), omega arith)
-
-enum-told : tie.Need-enum-told
-enum-told c = search needs
-
-enum-told-2 : tie.Need-enum-told-2
-enum-told-2 c = search needs
 
 -- what the search over 499,999 alone says
 lower : (c : tie.After-search) → c .search .result ≡ least (test (c .before .before .before .before)) 499999 1
@@ -101,5 +92,7 @@ returns-3 c =
 
 pub span-setting-spec : {M : Type 1} → statement M
 span-setting-spec =
-    tie.close (tie.spec difference-requires at-least-requires returns search-requires enum-told enum-told-2 returns-2 search-requires-2
+    tie.close
+    (tie.spec
+    difference-requires (λ c κs. search needs) returns search-requires (λ c. search needs) (λ c. search needs) returns-2 search-requires-2
     returns-3)

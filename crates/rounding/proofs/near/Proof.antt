@@ -14,14 +14,8 @@ use Rattle.rounding.proofs.Nearest.{at-negative, at-nonnegative}
 use Rattle.rounding.proofs.near.Statement.{statement}
 use Rattle.rounding.proofs.near.Tie as tie
 
-magnitude-requires : tie.Need-magnitude-requires
-magnitude-requires c κs = search needs
-
 m-is : (c : tie.After-magnitude) → c .magnitude .result ≡ natAbs (c .before .args .a)
 m-is c = let fa = c .before .fits .a in simp toZ-ofZ at (c .magnitude .ensures)
-
-sub-quotient : tie.Need-sub-quotient
-sub-quotient c = search needs
 
 quotient-requires : tie.Need-quotient-requires
 quotient-requires c κs = omega (arith, m-is (c .before))
@@ -66,5 +60,6 @@ returns-2 c =
 
 pub near-spec : {M : Type 1} → statement M
 near-spec =
-    tie.close (tie.spec magnitude-requires sub-quotient quotient-requires negative-requires quotient-requires-2 positive-requires returns
-    returns-2)
+    tie.close
+    (tie.spec
+    (λ c κs. search needs) (λ c. search needs) quotient-requires negative-requires quotient-requires-2 positive-requires returns returns-2)

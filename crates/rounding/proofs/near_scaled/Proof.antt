@@ -8,9 +8,6 @@ use mir.Val.{SFits}
 use Rattle.rounding.proofs.near_scaled.Statement.{statement}
 use Rattle.rounding.proofs.near_scaled.Tie as tie
 
-positive-requires : tie.Need-positive-requires
-positive-requires c κs = search needs
-
 near-product-requires : tie.Need-near-product-requires
 near-product-requires c κs =
     let fa = c .before .fits .a in
@@ -25,4 +22,4 @@ returns c =
     toZ-ofZ r ∙ rw (c .before .positive .ensures) at (simp toZ-ofZ at (c .near-product .ensures))
 
 pub near-scaled-spec : {M : Type 1} → statement M
-near-scaled-spec = tie.close (tie.spec positive-requires near-product-requires returns)
+near-scaled-spec = tie.close (tie.spec (λ c κs. search needs) near-product-requires returns)

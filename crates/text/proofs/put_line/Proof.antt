@@ -83,20 +83,11 @@ half c = (omega arith, omega arith)
 put-decimal-requires : tie.Need-put-decimal-requires
 put-decimal-requires c κs = omega (arith, sum (c .before .before))
 
-cast-put-spaced : tie.Need-cast-put-spaced
-cast-put-spaced c = search needs
-
 put-spaced-requires : tie.Need-put-spaced-requires
 put-spaced-requires c κs = omega (arith, sum (of-ordinal (c .before .before .before .before)))
 
-cast-put-spaced-2 : tie.Need-cast-put-spaced-2
-cast-put-spaced-2 c = search needs
-
 put-spaced-requires-2 : tie.Need-put-spaced-requires-2
 put-spaced-requires-2 c κs = omega (arith, sum (of-kind (c .before .before .before .before)))
-
-cast-put-spaced-3 : tie.Need-cast-put-spaced-3
-cast-put-spaced-3 c = search needs
 
 put-spaced-requires-3 : tie.Need-put-spaced-requires-3
 put-spaced-requires-3 c κs = omega (arith, sum (of-refusal (c .before .before .before .before)))
@@ -133,5 +124,7 @@ returns c =
 
 pub put-line-spec : {M : Type 1} → statement M
 put-line-spec =
-    tie.close (tie.spec put-decimal-requires cast-put-spaced put-spaced-requires cast-put-spaced-2 put-spaced-requires-2 cast-put-spaced-3
+    tie.close
+    (tie.spec
+    put-decimal-requires (λ c. search needs) put-spaced-requires (λ c. search needs) put-spaced-requires-2 (λ c. search needs)
     put-spaced-requires-3 put-spaced-signed-requires put-spaced-signed-requires-2 put-byte-requires same-length returns)

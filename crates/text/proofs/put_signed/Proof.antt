@@ -11,12 +11,6 @@ use Rattle.text.proofs.Pieces.{both}
 use Rattle.text.proofs.put_signed.Statement.{statement}
 use Rattle.text.proofs.put_signed.Tie as tie
 
-magnitude-requires : tie.Need-magnitude-requires
-magnitude-requires c κs = search needs
-
-below-zero-requires : tie.Need-below-zero-requires
-below-zero-requires c κs = search needs
-
 -- the text by its sign, on each side of the test
 minus : (i : tie.Then1) → let m = i .before .before in signedDecimal (m .before .before .args .x) ≡ 45 ∷ decimal (m .magnitude .result)
 minus i =
@@ -37,9 +31,6 @@ put-decimal-requires c κs = omega (arith, ap length (minus (c .before .before .
 put-decimal-requires-2 : tie.Need-put-decimal-requires-2
 put-decimal-requires-2 c κs = omega (arith, ap length (plain (c .before)))
 
-same-length : tie.Need-same-length
-same-length c = search needs
-
 returns : tie.Need-returns
 returns c =
     let p = c .before .before .before .before .before .before in
@@ -50,13 +41,12 @@ returns c =
     (both (s .args .out .now) (45 ∷ []) (decimal (i .before .before .magnitude .result)) (s .args .at) (p .put-byte .ensures)
     (c .before .before .put-decimal .ensures) (rw e at (s .pre)))
 
-same-length-2 : tie.Need-same-length-2
-same-length-2 c = search needs
-
 returns-2 : tie.Need-returns-2
 returns-2 c = rw (plain (c .before .before .before .before)) (c .before .before .put-decimal2 .ensures)
 
 pub put-signed-spec : {M : Type 1} → statement M
 put-signed-spec =
-    tie.close (tie.spec magnitude-requires below-zero-requires put-byte-requires put-decimal-requires put-decimal-requires-2 same-length
-    returns same-length-2 returns-2)
+    tie.close
+    (tie.spec
+    (λ c κs. search needs) (λ c κs. search needs) put-byte-requires put-decimal-requires put-decimal-requires-2 (λ c. search needs) returns
+    (λ c. search needs) returns-2)

@@ -8,14 +8,8 @@ use Rattle.text.proofs.Pieces.{both}
 use Rattle.text.proofs.put_spaced_signed.Statement.{statement}
 use Rattle.text.proofs.put_spaced_signed.Tie as tie
 
-put-byte-requires : tie.Need-put-byte-requires
-put-byte-requires c κs = search needs
-
 put-signed-requires : tie.Need-put-signed-requires
 put-signed-requires c κs = rw (toZ-ofZ (c .before .before .before .before .before .before .fits .x)) (omega arith)
-
-same-length : tie.Need-same-length
-same-length c = search needs
 
 returns : tie.Need-returns
 returns c =
@@ -25,5 +19,4 @@ returns c =
     (rw (toZ-ofZ (s .fits .x)) at (c .before .before .put-signed .ensures)) (s .pre)
 
 pub put-spaced-signed-spec : {M : Type 1} → statement M
-put-spaced-signed-spec =
-    tie.close (tie.spec put-byte-requires put-signed-requires same-length returns)
+put-spaced-signed-spec = tie.close (tie.spec (λ c κs. search needs) put-signed-requires (λ c. search needs) returns)

@@ -19,17 +19,11 @@ tenth e p = go (leb e (p / 10)) refl
     go true h = sym (le-leb (10 * e) p (omega (arith, leb-true e (p / 10) h)))
     go false h = sym (lt-leb (10 * e) p (omega (arith, leb-false e (p / 10) h)))
 
-within-requires : tie.Need-within-requires
-within-requires c κs = search needs
-
 returns : tie.Need-returns
 unfolding airWithin
 returns c =
     let low : within 60000 115000 (c .before .before .args .a .p) ≡ false = answered-no (c .before .within .ensures) (c .if1 .taken) in
     rw low
-
-within-requires-2 : tie.Need-within-requires-2
-within-requires-2 c κs = search needs
 
 returns-2 : tie.Need-returns-2
 unfolding airWithin
@@ -44,5 +38,4 @@ returns-3 c =
     rw (answered-yes (d .before .within .ensures) (d .if1 .left), answered-yes (e .before .within2 .ensures) (e .if2 .left)) (tenth (a .e) (a .p))
 
 pub air-within-spec : {M : Type 1} → statement M
-air-within-spec =
-    tie.close (tie.spec within-requires returns within-requires-2 returns-2 returns-3)
+air-within-spec = tie.close (tie.spec (λ c κs. search needs) returns (λ c κs. search needs) returns-2 returns-3)

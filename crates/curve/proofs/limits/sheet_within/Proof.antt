@@ -8,9 +8,6 @@ use Rattle.curve.specs.Limits.{within, sheetWithin}
 use Rattle.curve.proofs.limits.sheet_within.Statement.{statement}
 use Rattle.curve.proofs.limits.sheet_within.Tie as tie
 
-within-requires : tie.Need-within-requires
-within-requires c κs = search needs
-
 returns : tie.Need-returns
 unfolding sheetWithin
 returns c =
@@ -27,18 +24,12 @@ returns-3 c =
     let d = c .before .before .before .before in
     rw (answered-yes (d .before .within .ensures) (d .if1 .left), le-leb _ _ (c .before .before .if2 .left), lt-leb _ _ (c .if3 .taken))
 
-within-requires-2 : tie.Need-within-requires-2
-within-requires-2 c κs = search needs
-
 returns-4 : tie.Need-returns-4
 unfolding sheetWithin
 returns-4 c =
     let d = c .before .before in let e = d .before .before in let f = e .before .before in
     let t0 = answered-no (c .before .within2 .ensures) (c .if4 .taken) in
     rw (answered-yes (f .before .within .ensures) (f .if1 .left), le-leb _ _ (e .if2 .left), le-leb _ _ (d .if3 .left), t0)
-
-within-requires-3 : tie.Need-within-requires-3
-within-requires-3 c κs = search needs
 
 returns-5 : tie.Need-returns-5
 unfolding sheetWithin
@@ -49,4 +40,6 @@ returns-5 c =
 
 pub sheet-within-spec : {M : Type 1} → statement M
 sheet-within-spec =
-    tie.close (tie.spec within-requires returns returns-2 returns-3 within-requires-2 returns-4 within-requires-3 returns-5)
+    tie.close
+    (tie.spec
+    (λ c κs. search needs) returns returns-2 returns-3 (λ c κs. search needs) returns-4 (λ c κs. search needs) returns-5)

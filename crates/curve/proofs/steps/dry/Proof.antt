@@ -10,9 +10,6 @@ use Rattle.curve.specs.Curve.{dryOf}
 use Rattle.curve.proofs.steps.dry.Statement.{statement}
 use Rattle.curve.proofs.steps.dry.Tie as tie
 
-sub-near-scaled : tie.Need-sub-near-scaled
-sub-near-scaled c = search needs
-
 near-scaled-requires : tie.Need-near-scaled-requires
 near-scaled-requires c κs =
     let fc = c .before .fits .c in
@@ -27,4 +24,4 @@ returns c =
     toZ-ofZ r ∙ (simp toZ-ofZ at (c .near-scaled .ensures))
 
 pub dry-spec : {M : Type 1} → statement M
-dry-spec = tie.close (tie.spec sub-near-scaled near-scaled-requires returns)
+dry-spec = tie.close (tie.spec (λ c. search needs) near-scaled-requires returns)

@@ -11,12 +11,6 @@ use Rattle.curve.proofs.Sizes.{broadening-high}
 use Rattle.curve.proofs.steps.moist.Statement.{statement}
 use Rattle.curve.proofs.steps.moist.Tie as tie
 
-broadening-requires : tie.Need-broadening-requires
-broadening-requires c κs = search needs
-
-mul-near-scaled : tie.Need-mul-near-scaled
-mul-near-scaled c = search needs
-
 near-scaled-requires : tie.Need-near-scaled-requires
 near-scaled-requires c κs =
     let s = c .before .before in
@@ -32,4 +26,4 @@ returns c =
     toZ-ofZ r ∙ rw (c .before .before .broadening .ensures) at (simp toZ-ofZ at (c .near-scaled .ensures))
 
 pub moist-spec : {M : Type 1} → statement M
-moist-spec = tie.close (tie.spec broadening-requires mul-near-scaled near-scaled-requires returns)
+moist-spec = tie.close (tie.spec (λ c κs. search needs) (λ c. search needs) near-scaled-requires returns)

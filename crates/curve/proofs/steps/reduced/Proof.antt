@@ -9,9 +9,6 @@ use Rattle.curve.specs.Curve.{reducedOf}
 use Rattle.curve.proofs.steps.reduced.Statement.{statement}
 use Rattle.curve.proofs.steps.reduced.Tie as tie
 
-broadening-requires : tie.Need-broadening-requires
-broadening-requires c κs = search needs
-
 near-scaled-requires : tie.Need-near-scaled-requires
 near-scaled-requires c κs = let fv = c .before .fits .v in simp toZ-ofZ (omega (arith, c .before .pre .1 .p-low))
 
@@ -23,4 +20,4 @@ returns c =
     toZ-ofZ r ∙ rw (c .before .broadening .ensures) at (simp toZ-ofZ at (c .near-scaled .ensures))
 
 pub reduced-spec : {M : Type 1} → statement M
-reduced-spec = tie.close (tie.spec broadening-requires near-scaled-requires returns)
+reduced-spec = tie.close (tie.spec (λ c κs. search needs) near-scaled-requires returns)

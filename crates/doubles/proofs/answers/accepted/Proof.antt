@@ -13,9 +13,6 @@ returns c = rw (ne-eqb _ _ (c .if1 .taken))
 returns-2 : tie.Need-returns-2
 returns-2 c = rw (eq-eqb _ _ (c .before .before .if1 .left), ne-eqb _ _ (c .if2 .taken))
 
-below-limit-requires : tie.Need-below-limit-requires
-below-limit-requires c κs = search needs
-
 returns-3 : tie.Need-returns-3
 returns-3 c =
     let b = c .before .before in
@@ -23,4 +20,4 @@ returns-3 c =
     rw (eq-eqb _ _ (b .before .before .if1 .left), eq-eqb _ _ (b .if2 .left)) (simp toZ-ofZ at (c .below-limit .ensures))
 
 pub accepted-spec : {M : Type 1} → statement M
-accepted-spec = tie.close (tie.spec returns returns-2 below-limit-requires returns-3)
+accepted-spec = tie.close (tie.spec returns returns-2 (λ c κs. search needs) returns-3)

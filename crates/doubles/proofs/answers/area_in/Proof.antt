@@ -9,15 +9,9 @@ returns : tie.Need-returns
 unfolding hostAreaIn
 returns c = (rw (lt-leb 24 _ (c .if1 .taken)), tt)
 
-answer-at-requires : tie.Need-answer-at-requires
-answer-at-requires c κs = search needs
-
-of-area-requires : tie.Need-of-area-requires
-of-area-requires c κs = search needs
-
 returns-2 : tie.Need-returns-2
 unfolding hostAreaIn
 returns-2 c = rw (le-leb 24 _ (c .before .before .if1 .left), ← c .before .answer-at .ensures) (c .of-area .ensures)
 
 pub area-in-spec : {M : Type 1} → statement M
-area-in-spec = tie.close (tie.spec returns answer-at-requires of-area-requires returns-2)
+area-in-spec = tie.close (tie.spec returns (λ c κs. search needs) (λ c κs. search needs) returns-2)

@@ -4,11 +4,8 @@ use mir.Facts.{toZ-ofZ}
 use Rattle.doubles.proofs.answers.below_limit.Statement.{statement}
 use Rattle.doubles.proofs.answers.below_limit.Tie as tie
 
-magnitude-requires : tie.Need-magnitude-requires
-magnitude-requires c κs = search needs
-
 returns : tie.Need-returns
 returns c = let f = c .before .fits .x in rw (simp toZ-ofZ at (c .magnitude .ensures))
 
 pub below-limit-spec : {M : Type 1} → statement M
-below-limit-spec = tie.close (tie.spec magnitude-requires returns)
+below-limit-spec = tie.close (tie.spec (λ c κs. search needs) returns)

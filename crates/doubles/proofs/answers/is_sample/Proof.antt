@@ -10,16 +10,10 @@ use Rattle.doubles.specs.Doubles.{acceptedAs}
 use Rattle.doubles.proofs.answers.is_sample.Statement.{statement}
 use Rattle.doubles.proofs.answers.is_sample.Tie as tie
 
-accepted-requires : tie.Need-accepted-requires
-accepted-requires c κs = search needs
-
 returns : tie.Need-returns
 returns c =
     let refused : acceptedAs 6 (c .before .before .args .a) ≡ false = sym (c .before .accepted .ensures) ∙ not-true _ (c .if1 .taken) in
     rw refused
-
-below-limit-requires : tie.Need-below-limit-requires
-below-limit-requires c κs = search needs
 
 returns-2 : tie.Need-returns-2
 returns-2 c =
@@ -29,4 +23,4 @@ returns-2 c =
     rw taken (simp toZ-ofZ at (c .below-limit .ensures))
 
 pub is-sample-spec : {M : Type 1} → statement M
-is-sample-spec = tie.close (tie.spec accepted-requires returns below-limit-requires returns-2)
+is-sample-spec = tie.close (tie.spec (λ c κs. search needs) returns (λ c κs. search needs) returns-2)

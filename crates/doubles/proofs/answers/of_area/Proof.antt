@@ -10,12 +10,6 @@ use Rattle.doubles.proofs.Laws.{cast, is-whole, below, x-limit}
 use Rattle.doubles.proofs.answers.of_area.Statement.{statement}
 use Rattle.doubles.proofs.answers.of_area.Tie as tie
 
-accepted-requires : tie.Need-accepted-requires
-accepted-requires c κs = search needs
-
-refused-with-requires : tie.Need-refused-with-requires
-refused-with-requires c κs = search needs
-
 returns : tie.Need-returns
 unfolding hostArea
 returns c = (rw (sym (c .before .before .accepted .ensures) ∙ not-true _ (c .before .if1 .taken), c .refused-with .ensures), tt)
@@ -36,4 +30,4 @@ returns-2 c =
     rw x (rw (area d), is-whole (a .x) (below (a .x) (x-limit 9 a (area d))))
 
 pub of-area-spec : {M : Type 1} → statement M
-of-area-spec = tie.close (tie.spec accepted-requires refused-with-requires returns int-to-float-t5 returns-2)
+of-area-spec = tie.close (tie.spec (λ c κs. search needs) (λ c κs. search needs) returns int-to-float-t5 returns-2)

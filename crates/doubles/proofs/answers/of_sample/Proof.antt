@@ -13,12 +13,6 @@ use Rattle.doubles.proofs.Laws.{cast, is-whole, below, sample-limits}
 use Rattle.doubles.proofs.answers.of_sample.Statement.{statement}
 use Rattle.doubles.proofs.answers.of_sample.Tie as tie
 
-is-sample-requires : tie.Need-is-sample-requires
-is-sample-requires c κs = search needs
-
-refused-with-requires : tie.Need-refused-with-requires
-refused-with-requires c κs = search needs
-
 returns : tie.Need-returns
 unfolding hostSample
 returns c = (rw (sym (c .before .before .is-sample .ensures) ∙ not-true _ (c .before .if1 .taken), c .refused-with .ensures), tt)
@@ -37,9 +31,6 @@ int-to-float-t6 c =
     let a = c .before .before .before .before .before .before .args .a in
     cast (a .y) (search needs) (sample-limits a (sample (c .before .before .before .before)) .1)
 
-int-to-float-t7 : tie.Need-int-to-float-t7
-int-to-float-t7 c = search needs
-
 returns-2 : tie.Need-returns-2
 unfolding hostSample
 returns-2 c =
@@ -53,4 +44,6 @@ returns-2 c =
 
 pub of-sample-spec : {M : Type 1} → statement M
 of-sample-spec =
-    tie.close (tie.spec is-sample-requires refused-with-requires returns int-to-float-t5 int-to-float-t6 int-to-float-t7 returns-2)
+    tie.close
+    (tie.spec
+    (λ c κs. search needs) (λ c κs. search needs) returns int-to-float-t5 int-to-float-t6 (λ c. search needs) returns-2)

@@ -9,15 +9,9 @@ returns : tie.Need-returns
 unfolding hostSampleIn
 returns c = (rw (lt-leb 24 _ (c .if1 .taken)), tt)
 
-answer-at-requires : tie.Need-answer-at-requires
-answer-at-requires c κs = search needs
-
-of-sample-requires : tie.Need-of-sample-requires
-of-sample-requires c κs = search needs
-
 returns-2 : tie.Need-returns-2
 unfolding hostSampleIn
 returns-2 c = rw (le-leb 24 _ (c .before .before .if1 .left), ← c .before .answer-at .ensures) (c .of-sample .ensures)
 
 pub sample-in-spec : {M : Type 1} → statement M
-sample-in-spec = tie.close (tie.spec returns answer-at-requires of-sample-requires returns-2)
+sample-in-spec = tie.close (tie.spec returns (λ c κs. search needs) (λ c κs. search needs) returns-2)

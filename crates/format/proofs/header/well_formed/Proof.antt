@@ -35,4 +35,5 @@ well-formed-spec =
     tie.close
     (tie.spec
     returns (λ c κs. search needs) (λ c κs. search needs) returns-2 returns-3 (λ c. search needs) (λ c. search needs) (λ c κs. search needs)
-    (λ c κs. search needs) (λ c. search needs) (λ c κs. search needs) (λ c. search needs) (λ c. search needs) (λ c κs. search needs) returns-4)
+    (λ c κs. search needs) (λ c. search needs) (λ c κs. search needs) (λ c. search needs) (λ c. search needs) (λ c κs. search needs)
+    returns-4)

@@ -3,14 +3,8 @@ use borrow.Author.Needs.{needs}
 use Rattle.host.proofs.exports.irga_lines.Statement.{statement}
 use Rattle.host.proofs.exports.irga_lines.Tie as tie
 
-lines-requires : tie.Need-lines-requires
-lines-requires c κs = search needs
-
-same-length : tie.Need-same-length
-same-length c = search needs
-
 returns : tie.Need-returns
 returns c = c .before .before .lines .ensures
 
 pub irga-lines-spec : {M : Type 1} → statement M
-irga-lines-spec = tie.close (tie.spec lines-requires same-length returns)
+irga-lines-spec = tie.close (tie.spec (λ c κs. search needs) (λ c. search needs) returns)

@@ -3,14 +3,8 @@ use borrow.Author.Needs.{needs}
 use Rattle.host.proofs.exports.irga_run.Statement.{statement}
 use Rattle.host.proofs.exports.irga_run.Tie as tie
 
-run-requires : tie.Need-run-requires
-run-requires c κs = search needs
-
-same-length : tie.Need-same-length
-same-length c = search needs
-
 returns : tie.Need-returns
 returns c = c .before .before .run .ensures
 
 pub irga-run-spec : {M : Type 1} → statement M
-irga-run-spec = tie.close (tie.spec run-requires same-length returns)
+irga-run-spec = tie.close (tie.spec (λ c κs. search needs) (λ c. search needs) returns)

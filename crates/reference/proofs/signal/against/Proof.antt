@@ -14,9 +14,6 @@ use Rattle.reference.specs.Signal.{againstOf}
 use Rattle.reference.proofs.signal.against.Statement.{statement}
 use Rattle.reference.proofs.signal.against.Tie as tie
 
-positive-requires : tie.Need-positive-requires
-positive-requires c κs = search needs
-
 sum-requires : tie.Need-sum-requires
 sum-requires c κs =
     let fv = c .before .fits .v in
@@ -60,4 +57,4 @@ returns c =
     toZ-ofZ r ∙ rw (sum-is (c .before .before), share-is (c .before)) at (simp toZ-ofZ at (c .difference .ensures))
 
 pub against-spec : {M : Type 1} → statement M
-against-spec = tie.close (tie.spec positive-requires sum-requires near-scaled-requires difference-requires returns)
+against-spec = tie.close (tie.spec (λ c κs. search needs) sum-requires near-scaled-requires difference-requires returns)

@@ -6,9 +6,6 @@ use mir.Val.{SFits}
 use Rattle.rounding.proofs.signed.at_least.Statement.{statement}
 use Rattle.rounding.proofs.signed.at_least.Tie as tie
 
-positive-requires : tie.Need-positive-requires
-positive-requires c κs = search needs
-
 returns : tie.Need-returns
 returns c =
     let fa = c .before .fits .a in
@@ -16,4 +13,4 @@ returns c =
     simp toZ-ofZ (rw (c .positive .ensures))
 
 pub at-least-spec : {M : Type 1} → statement M
-at-least-spec = tie.close (tie.spec positive-requires returns)
+at-least-spec = tie.close (tie.spec (λ c κs. search needs) returns)

@@ -11,9 +11,6 @@ use Rattle.rounding.proofs.Machine.{sfits}
 use Rattle.rounding.proofs.signed.negative.Statement.{statement}
 use Rattle.rounding.proofs.signed.negative.Tie as tie
 
-cast-result : tie.Need-cast-result
-cast-result c = search needs
-
 m-is : (c : tie.Start) → toZ w64 (c .args .m) ≡ pos (c .args .m)
 m-is c = toZ-pos w64 (omega arith)
 
@@ -27,4 +24,4 @@ returns : tie.Need-returns
 returns c = let f = fit c in simp (m-is c, +ℤ-idl, toZ-ofZ)
 
 pub negative-spec : {M : Type 1} → statement M
-negative-spec = tie.close (tie.spec cast-result sub-result returns)
+negative-spec = tie.close (tie.spec (λ c. search needs) sub-result returns)

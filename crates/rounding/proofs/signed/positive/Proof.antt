@@ -6,11 +6,8 @@ use mir.Syntax.{w64}
 use Rattle.rounding.proofs.signed.positive.Statement.{statement}
 use Rattle.rounding.proofs.signed.positive.Tie as tie
 
-cast-result : tie.Need-cast-result
-cast-result c = search needs
-
 returns : tie.Need-returns
 returns c = toZ-pos w64 (omega arith)
 
 pub positive-spec : {M : Type 1} → statement M
-positive-spec = tie.close (tie.spec cast-result returns)
+positive-spec = tie.close (tie.spec (λ c. search needs) returns)

@@ -6,12 +6,6 @@ use borrow.Author.Needs.{needs}
 use Rattle.rounding.proofs.widths.size.Statement.{statement}
 use Rattle.rounding.proofs.widths.size.Tie as tie
 
-wide-requires : tie.Need-wide-requires
-wide-requires c κs = search needs
-
-magnitude-requires : tie.Need-magnitude-requires
-magnitude-requires c κs = search needs
-
 returns : tie.Need-returns
 returns c =
     let f = c .before .before .fits .x in
@@ -19,4 +13,4 @@ returns c =
     rw (simp toZ-ofZ at (c .before .wide .ensures)) at (simp toZ-ofZ at (c .magnitude .ensures))
 
 pub size-spec : {M : Type 1} → statement M
-size-spec = tie.close (tie.spec wide-requires magnitude-requires returns)
+size-spec = tie.close (tie.spec (λ c κs. search needs) (λ c κs. search needs) returns)

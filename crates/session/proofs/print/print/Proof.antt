@@ -5,17 +5,8 @@ use Rattle.session.proofs.Printing.{prints-long, prints-refused, prints
 use Rattle.session.proofs.print.print.Statement.{statement}
 use Rattle.session.proofs.print.print.Tie as tie
 
-put-refused-requires : tie.Need-put-refused-requires
-put-refused-requires c κs = search needs
-
 returns : tie.Need-returns
 returns c = rw (prints-long _ (c .before .before .if1 .taken)) (c .put-refused .ensures)
-
-lines-requires : tie.Need-lines-requires
-lines-requires c κs = search needs
-
-put-refused-requires-2 : tie.Need-put-refused-requires-2
-put-refused-requires-2 c κs = search needs
 
 returns-2 : tie.Need-returns-2
 returns-2 c =
@@ -28,5 +19,4 @@ returns-3 : tie.Need-returns-3
 returns-3 c = prints-lines _ (c .before .before .before .before .if1 .left) (c .before .before .lines .ensures) (c .if2 .left)
 
 pub print-spec : {M : Type 1} → statement M
-print-spec =
-    tie.close (tie.spec put-refused-requires returns lines-requires put-refused-requires-2 returns-2 returns-3)
+print-spec = tie.close (tie.spec (λ c κs. search needs) returns (λ c κs. search needs) (λ c κs. search needs) returns-2 returns-3)

@@ -79,7 +79,8 @@ module _ (s : Sheet) (q : ℤ) (span : ℕ) (at : Measurement) where
   refused-on mode f e = subst (Told mode f) e (told mode f)
 
 -- a refusal has a number of the list
-pub refused-number : {s : Sheet} {q : ℤ} {span : ℕ} {mode : Mode} {at : Measurement} {f : Found} {number : ℕ} → RefusedOn s q span mode at f number → (6 ≤ number) × (number ≤ 9)
+pub refused-number : {s : Sheet} {q : ℤ} {span : ℕ} {mode : Mode} {at : Measurement} {f : Found} {number : ℕ}
+    → RefusedOn s q span mode at f number → (6 ≤ number) × (number ≤ 9)
 refused-number (by-6 e c) = (omega arith, omega arith)
 refused-number (by-9 e c n) = (omega arith, omega arith)
 refused-number (by-7 e c n r) = (omega arith, omega arith)

@@ -44,7 +44,8 @@ returns-3 c =
     let b = c .before .before in
     let f = b .before .before .before .before .fits .raw in
     let g : SFits w64 (c .before .wide .result) = search needs in
-    rw (simp toZ-ofZ at (c .idle-with .ensures), simp toZ-ofZ at (c .before .wide .ensures), b .before .before .enum-told .given .1, size-is (b .before), le-leb _ _ (b .if1 .left))
+    let e = simp toZ-ofZ at (c .before .wide .ensures) in
+    rw (simp toZ-ofZ at (c .idle-with .ensures), e, b .before .before .enum-told .given .1, size-is (b .before), le-leb _ _ (b .if1 .left))
 
 pub zero-spec : {M : Type 1} → statement M
 zero-spec =

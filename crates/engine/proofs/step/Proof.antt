@@ -7,30 +7,15 @@ use borrow.Author.Needs.{needs}
 use Rattle.engine.proofs.step.Statement.{statement}
 use Rattle.engine.proofs.step.Tie as tie
 
-workable-requires : tie.Need-workable-requires
-workable-requires c κs = search needs
-
-refuse-requires : tie.Need-refuse-requires
-refuse-requires c κs = search needs
-
 returns : tie.Need-returns
 unfolding stepOf
 returns c = rw (c .refuse .ensures, sym (c .before .before .workable .ensures) ∙ not-true _ (c .before .if1 .taken))
-
-enum-known-entry : tie.Need-enum-known-entry
-enum-known-entry c = search needs
 
 works : (c : tie.Else1) → workable (c .before .before .before .args .state) ≡ true
 works c = sym (c .before .workable .ensures) ∙ not-false _ (c .if1 .left)
 
 known-requires : tie.Need-known-requires
 known-requires c κs = works (c .before .before .before)
-
-enum-known-entry-2 : tie.Need-enum-known-entry-2
-enum-known-entry-2 c = search needs
-
-malformed-requires : tie.Need-malformed-requires
-malformed-requires c κs = search needs
 
 returns-2 : tie.Need-returns-2
 unfolding stepOf
@@ -44,12 +29,5 @@ pub step-spec : {M : Type 1} → statement M
 step-spec =
     tie.close
     (tie.spec
-    workable-requires
-    refuse-requires
-    returns
-    enum-known-entry
-    known-requires
-    enum-known-entry-2
-    malformed-requires
-    returns-2
-    returns-3)
+    (λ c κs. search needs) (λ c κs. search needs) returns (λ c. search needs) known-requires (λ c. search needs) (λ c κs. search needs)
+    returns-2 returns-3)

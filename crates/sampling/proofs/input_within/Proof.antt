@@ -14,21 +14,11 @@ size-is c =
     let f : SFits w32 (c .before .before .args .at .raw) = search needs in
     sym (simp toZ-ofZ at (c .size .ensures))
 
-size-requires : tie.Need-size-requires
-size-requires c κs = search needs
-
 returns : tie.Need-returns
 returns c = rw (size-is (c .before), lt-leb _ _ (c .if1 .taken))
-
-air-of-requires : tie.Need-air-of-requires
-air-of-requires c κs = search needs
-
-air-within-requires : tie.Need-air-within-requires
-air-within-requires c κs = search needs
 
 returns-2 : tie.Need-returns-2
 returns-2 c = rw (c .air-within .ensures, c .before .air-of .ensures, size-is (c .before .before .before), le-leb _ _ (c .before .before .if1 .left))
 
 pub input-within-spec : {M : Type 1} → statement M
-input-within-spec =
-    tie.close (tie.spec size-requires returns air-of-requires air-within-requires returns-2)
+input-within-spec = tie.close (tie.spec (λ c κs. search needs) returns (λ c κs. search needs) (λ c κs. search needs) returns-2)

@@ -4,15 +4,6 @@ use borrow.Author.Needs.{needs}
 use Rattle.sampling.proofs.inputs_within.Statement.{statement}
 use Rattle.sampling.proofs.inputs_within.Tie as tie
 
-input-within-requires : tie.Need-input-within-requires
-input-within-requires c κs = search needs
-
-air-of-requires : tie.Need-air-of-requires
-air-of-requires c κs = search needs
-
-vapour-within-requires : tie.Need-vapour-within-requires
-vapour-within-requires c κs = search needs
-
 returns : tie.Need-returns
 returns c =
     let d = c .before .before in
@@ -22,6 +13,4 @@ returns-2 : tie.Need-returns-2
 returns-2 c = rw (sym (c .before .input-within .ensures) ∙ c .if1 .left) (search needs)
 
 pub inputs-within-spec : {M : Type 1} → statement M
-inputs-within-spec =
-    tie.close
-    (tie.spec input-within-requires air-of-requires vapour-within-requires returns returns-2)
+inputs-within-spec = tie.close (tie.spec (λ c κs. search needs) (λ c κs. search needs) (λ c κs. search needs) returns returns-2)

@@ -4,15 +4,6 @@ use borrow.Author.Needs.{needs}
 use Rattle.sampling.proofs.mode_within.Statement.{statement}
 use Rattle.sampling.proofs.mode_within.Tie as tie
 
-enum-told : tie.Need-enum-told
-enum-told c = search needs
-
-enum-known-mode : tie.Need-enum-known-mode
-enum-known-mode c = search needs
-
-returns : tie.Need-returns
-returns c = search needs
-
 returns-2 : tie.Need-returns-2
 returns-2 c = rw (c .before .before .before .before .mode .given .1, le-leb _ _ (c .before .if1 .taken))
 
@@ -20,4 +11,4 @@ returns-3 : tie.Need-returns-3
 returns-3 c = rw (c .before .before .before .mode .given .1, lt-leb _ _ (c .if1 .left))
 
 pub mode-within-spec : {M : Type 1} → statement M
-mode-within-spec = tie.close (tie.spec enum-told enum-known-mode returns returns-2 returns-3)
+mode-within-spec = tie.close (tie.spec (λ c. search needs) (λ c. search needs) (λ c. search needs) returns-2 returns-3)

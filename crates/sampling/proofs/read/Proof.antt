@@ -11,21 +11,6 @@ use borrow.Author.Needs.{needs}
 use Rattle.sampling.proofs.read.Statement.{statement}
 use Rattle.sampling.proofs.read.Tie as tie
 
-enum-told : tie.Need-enum-told
-enum-told c = search needs
-
-values-requires : tie.Need-values-requires
-values-requires c κs = search needs
-
-enum-told-2 : tie.Need-enum-told-2
-enum-told-2 c = search needs
-
-enum-known-finding : tie.Need-enum-known-finding
-enum-known-finding c = search needs
-
-enum-told-3 : tie.Need-enum-told-3
-enum-told-3 c = search needs
-
 returns : tie.Need-returns
 returns c = rw (c .before .before .enum-told2 .given .1, c .enum-told3 .given .1)
 
@@ -35,9 +20,6 @@ against-requires c κs =
     let f = s .fits .v in
     let r = subst (λ (x : Found). foundValue x ≤ 150000000) (c .before .finding .given .1) (s .pre .3) in
     simp toZ-ofZ (s .pre .2, r, omega (arith, s .pre .0 .k-low), s .pre .0 .k-high)
-
-values-requires-2 : tie.Need-values-requires-2
-values-requires-2 c κs = search needs
 
 returns-2 : tie.Need-returns-2
 returns-2 c = let f = c .before .before .before .fits .v in rw (c .before .enum-told .given .1) (simp toZ-ofZ at (c .values .ensures))
@@ -55,13 +37,5 @@ pub read-spec : {M : Type 1} → statement M
 read-spec =
     tie.close
     (tie.spec
-    enum-told
-    values-requires
-    enum-told-2
-    enum-known-finding
-    enum-told-3
-    returns
-    against-requires
-    values-requires-2
-    returns-2
-    returns-3)
+    (λ c. search needs) (λ c κs. search needs) (λ c. search needs) (λ c. search needs) (λ c. search needs) returns against-requires
+    (λ c κs. search needs) returns-2 returns-3)

@@ -15,18 +15,9 @@ use Rattle.sampling.proofs.Sizes.{signal-size, finding-size}
 use Rattle.sampling.proofs.sample_on.Statement.{statement}
 use Rattle.sampling.proofs.sample_on.Tie as tie
 
-inputs-within-requires : tie.Need-inputs-within-requires
-inputs-within-requires c κs = search needs
-
 returns : tie.Need-returns
 unfolding sampledOn
 returns c = rw (sym (c .before .inputs-within .ensures) ∙ not-true _ (c .if1 .taken))
-
-air-of-requires : tie.Need-air-of-requires
-air-of-requires c κs = search needs
-
-wide-requires : tie.Need-wide-requires
-wide-requires c κs = search needs
 
 -- ---- what is known after check 6, and each result in the sample's terms
 abbrev start1 : tie.Else1 → tie.Start
@@ -94,11 +85,5 @@ pub sample-on-spec : {M : Type 1} → statement M
 sample-on-spec =
     tie.close
     (tie.spec
-    inputs-within-requires
-    returns
-    air-of-requires
-    wide-requires
-    from-raw-requires
-    searched-requires
-    read-requires
+    (λ c κs. search needs) returns (λ c κs. search needs) (λ c κs. search needs) from-raw-requires searched-requires read-requires
     returns-2)

@@ -6,23 +6,14 @@ use borrow.Author.Needs.{needs}
 use Rattle.sampling.proofs.searched.Statement.{statement}
 use Rattle.sampling.proofs.searched.Tie as tie
 
-enum-told : tie.Need-enum-told
-enum-told c = search needs
-
-enum-known-mode : tie.Need-enum-known-mode
-enum-known-mode c = search needs
-
 reference-signal-requires : tie.Need-reference-signal-requires
 reference-signal-requires c κs =
     let s = c .before .before .before in
     let m = c .before .mode .given .1 in
     (s .pre .0, reference-air-ok (s .args .a) (s .pre .1) (s .pre .3) m, omega (arith, gas-in (s .pre .2) m .c))
 
-returns : tie.Need-returns
-returns c = search needs
-
 returns-2 : tie.Need-returns-2
 returns-2 c = rw (c .reference-signal .ensures, c .before .before .mode .given .1)
 
 pub searched-spec : {M : Type 1} → statement M
-searched-spec = tie.close (tie.spec enum-told enum-known-mode reference-signal-requires returns returns-2)
+searched-spec = tie.close (tie.spec (λ c. search needs) (λ c. search needs) reference-signal-requires (λ c. search needs) returns-2)

@@ -27,15 +27,6 @@ reading-is c = let f = c .before .fits .v in simp toZ-ofZ at (c .absolute .ensur
 passed-on : (n : ℕ) (a : Air) (x : Reading) → OneOf (1 ∷ 2 ∷ []) (tagOf the-type x) → valuesOf n a x ≡ Sampled.Refused (readingRefusal x)
 passed-on n a x t = ⊎-elim (λ e. rw e) (λ e. rw e) (refused x t)
 
-absolute-requires : tie.Need-absolute-requires
-absolute-requires c κs = search needs
-
-enum-known-reading : tie.Need-enum-known-reading
-enum-known-reading c = search needs
-
-reading-refusal-requires : tie.Need-reading-refusal-requires
-reading-refusal-requires c κs = search needs
-
 returns : tie.Need-returns
 returns c =
     let d = c .before .before in
@@ -56,12 +47,4 @@ returns-2 c =
     simp toZ-ofZ (rw (sym (reading-is (c .before .before .before .before)) ∙ c .before .before .reading .given .1, simp toZ-ofZ at (c .dry .ensures)))
 
 pub values-spec : {M : Type 1} → statement M
-values-spec =
-    tie.close
-    (tie.spec
-    absolute-requires
-    enum-known-reading
-    reading-refusal-requires
-    returns
-    dry-requires
-    returns-2)
+values-spec = tie.close (tie.spec (λ c κs. search needs) (λ c. search needs) (λ c κs. search needs) returns dry-requires returns-2)

@@ -5,20 +5,11 @@ use borrow.Author.Needs.{needs}
 use Rattle.sampling.proofs.vapour_within.Statement.{statement}
 use Rattle.sampling.proofs.vapour_within.Tie as tie
 
-enum-told : tie.Need-enum-told
-enum-told c = search needs
-
-enum-known-mode : tie.Need-enum-known-mode
-enum-known-mode c = search needs
-
 mul-result : tie.Need-mul-result
 mul-result c = omega (arith, gas-in (c .before .before .before .before .pre) (c .before .before .mode .given .1) .e)
-
-returns : tie.Need-returns
-returns c = search needs
 
 returns-2 : tie.Need-returns-2
 returns-2 c = rw (c .before .before .before .mode .given .1)
 
 pub vapour-within-spec : {M : Type 1} → statement M
-vapour-within-spec = tie.close (tie.spec enum-told enum-known-mode mul-result returns returns-2)
+vapour-within-spec = tie.close (tie.spec (λ c. search needs) (λ c. search needs) mul-result (λ c. search needs) returns-2)

@@ -10,23 +10,11 @@ returns : tie.Need-returns
 unfolding lookupOf
 returns c = rw (le-ltb _ _ (c .if1 .taken))
 
-mul-sheet-at : tie.Need-mul-sheet-at
-mul-sheet-at c = search needs
-
-sheet-at-requires : tie.Need-sheet-at-requires
-sheet-at-requires c κs = search needs
-
-record-within-requires : tie.Need-record-within-requires
-record-within-requires c κs = search needs
-
 returns-2 : tie.Need-returns-2
 unfolding lookupOf
 returns-2 c =
     let d = c .before .before in
     rw (lt-ltb _ _ (d .before .if1 .left), ← d .sheet-at .ensures, sym (c .before .record-within .ensures) ∙ not-true _ (c .if2 .taken))
-
-sheet-of-requires : tie.Need-sheet-of-requires
-sheet-of-requires c κs = search needs
 
 returns-3 : tie.Need-returns-3
 unfolding lookupOf
@@ -39,10 +27,4 @@ pub find-sheet-spec : {M : Type 1} → statement M
 find-sheet-spec =
     tie.close
     (tie.spec
-    returns
-    mul-sheet-at
-    sheet-at-requires
-    record-within-requires
-    returns-2
-    sheet-of-requires
-    returns-3)
+    returns (λ c. search needs) (λ c κs. search needs) (λ c κs. search needs) returns-2 (λ c κs. search needs) returns-3)

@@ -12,9 +12,6 @@ use Rattle.sheets.specs.Sheets.{asSheet}
 use Rattle.sheets.proofs.record_within.Statement.{statement}
 use Rattle.sheets.proofs.record_within.Tie as tie
 
-non-negative-requires : tie.Need-non-negative-requires
-non-negative-requires c κs = search needs
-
 -- each test in the record's terms
 abbrev start1 : tie.After-non-negative → tie.Start
 start1 c = c .before .before
@@ -26,9 +23,6 @@ a1-is c =
 
 returns : tie.Need-returns
 returns c = rw (a1-is (c .before) ∙ not-true _ (c .if1 .taken))
-
-non-negative-requires-2 : tie.Need-non-negative-requires-2
-non-negative-requires-2 c κs = search needs
 
 abbrev start2 : tie.After-non-negative2 → tie.Start
 start2 c = start1 (c .before .before .before)
@@ -43,9 +37,6 @@ a1-at c = a1-is (c .before) ∙ not-false _ (c .if1 .left)
 
 returns-2 : tie.Need-returns-2
 returns-2 c = rw (a1-at (c .before .before .before), a2-is (c .before) ∙ not-true _ (c .if2 .taken))
-
-non-negative-requires-3 : tie.Need-non-negative-requires-3
-non-negative-requires-3 c κs = search needs
 
 abbrev start3 : tie.After-non-negative3 → tie.Start
 start3 c = start2 (c .before .before .before)
@@ -62,12 +53,6 @@ returns-3 : tie.Need-returns-3
 returns-3 c =
     let d = c .before .before .before in
     rw (a1-at (d .before .before .before), a2-at d, a3-is (c .before) ∙ not-true _ (c .if3 .taken))
-
-sheet-of-requires : tie.Need-sheet-of-requires
-sheet-of-requires c κs = search needs
-
-sheet-within-requires : tie.Need-sheet-within-requires
-sheet-within-requires c κs = search needs
 
 a3-at : (c : tie.Else3) → nonNeg (start3 (c .before) .args .r .a3) ≡ true
 a3-at c = a3-is (c .before) ∙ not-false _ (c .if3 .left)
@@ -91,13 +76,5 @@ pub record-within-spec : {M : Type 1} → statement M
 record-within-spec =
     tie.close
     (tie.spec
-    non-negative-requires
-    returns
-    non-negative-requires-2
-    returns-2
-    non-negative-requires-3
-    returns-3
-    sheet-of-requires
-    sheet-within-requires
-    returns-4
-    returns-5)
+    (λ c κs. search needs) returns (λ c κs. search needs) returns-2 (λ c κs. search needs) returns-3 (λ c κs. search needs)
+    (λ c κs. search needs) returns-4 returns-5)

@@ -6,21 +6,6 @@ use borrow.Author.Needs.{needs}
 use Rattle.sheets.proofs.sheet_of.Statement.{statement}
 use Rattle.sheets.proofs.sheet_of.Tie as tie
 
-size-requires : tie.Need-size-requires
-size-requires c κs = search needs
-
-size-requires-2 : tie.Need-size-requires-2
-size-requires-2 c κs = search needs
-
-size-requires-3 : tie.Need-size-requires-3
-size-requires-3 c κs = search needs
-
-cast-t5 : tie.Need-cast-t5
-cast-t5 c = search needs
-
-cast-t6 : tie.Need-cast-t6
-cast-t6 c = search needs
-
 returns : tie.Need-returns
 returns c =
     let f1 : SFits w32 (c .before .before .before .before .before .before .before .before .args .r .a1) = search needs in
@@ -32,4 +17,6 @@ returns c =
 
 pub sheet-of-spec : {M : Type 1} → statement M
 sheet-of-spec =
-    tie.close (tie.spec size-requires size-requires-2 size-requires-3 cast-t5 cast-t6 returns)
+    tie.close
+    (tie.spec
+    (λ c κs. search needs) (λ c κs. search needs) (λ c κs. search needs) (λ c. search needs) (λ c. search needs) returns)

@@ -4,24 +4,6 @@ use borrow.Author.Needs.{needs}
 use Rattle.counting.proofs.limits.integration_within.Statement.{statement}
 use Rattle.counting.proofs.limits.integration_within.Tie as tie
 
-enum-told : tie.Need-enum-told
-enum-told c = search needs
-
-enum-known-i : tie.Need-enum-known-i
-enum-known-i c = search needs
-
-tally-within-requires : tie.Need-tally-within-requires
-tally-within-requires c κs = search needs
-
-enum-known-i-2 : tie.Need-enum-known-i-2
-enum-known-i-2 c = search needs
-
-tally-within-requires-2 : tie.Need-tally-within-requires-2
-tally-within-requires-2 c κs = search needs
-
-returns : tie.Need-returns
-returns c = search needs
-
 returns-2 : tie.Need-returns-2
 returns-2 c = rw (c .before .before .before .before .i .given .1, sym (c .before .before .tally-within .ensures) ∙ c .before .if1 .taken)
 
@@ -35,12 +17,5 @@ pub integration-within-spec : {M : Type 1} → statement M
 integration-within-spec =
     tie.close
     (tie.spec
-    enum-told
-    enum-known-i
-    tally-within-requires
-    enum-known-i-2
-    tally-within-requires-2
-    returns
-    returns-2
-    returns-3
-    returns-4)
+    (λ c. search needs) (λ c. search needs) (λ c κs. search needs) (λ c. search needs) (λ c κs. search needs) (λ c. search needs) returns-2
+    returns-3 returns-4)

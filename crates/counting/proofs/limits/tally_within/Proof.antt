@@ -14,9 +14,6 @@ use Rattle.counting.proofs.limits.tally_within.Tie as tie
 returns : tie.Need-returns
 returns c = rw (lt-leb _ _ (c .if1 .taken))
 
-magnitude-requires : tie.Need-magnitude-requires
-magnitude-requires c κs = search needs
-
 -- each magnitude in the tally's terms, and each test that is passed, where it is passed
 abbrev start1 : tie.After-magnitude → tie.Start
 start1 c = c .before .before .before .before
@@ -31,9 +28,6 @@ returns-2 c = rw (le-leb _ _ (c .before .before .before .if1 .left), first-is (c
 
 first-at : (c : tie.Else2) → leb (natAbs (start1 (c .before) .args .t .first)) 3000000000 ≡ true
 first-at c = rw (first-is (c .before)) (le-leb _ _ (c .if2 .left))
-
-magnitude-requires-2 : tie.Need-magnitude-requires-2
-magnitude-requires-2 c κs = search needs
 
 abbrev start2 : tie.After-magnitude2 → tie.Start
 start2 c = start1 (c .before .before .before)
@@ -51,9 +45,6 @@ returns-3 c =
 last-at : (c : tie.Else3) → leb (natAbs (start2 (c .before) .args .t .last)) 3000000000 ≡ true
 last-at c = rw (last-is (c .before)) (le-leb _ _ (c .if3 .left))
 
-magnitude-requires-3 : tie.Need-magnitude-requires-3
-magnitude-requires-3 c κs = search needs
-
 sum-is : (c : tie.After-magnitude3) → natAbs (start2 (c .before .before .before) .args .t .sum) ≡ c .magnitude3 .result
 sum-is c =
     let f : SFits w64 (start2 (c .before .before .before) .args .t .sum) = search needs in
@@ -69,10 +60,4 @@ pub tally-within-spec : {M : Type 1} → statement M
 tally-within-spec =
     tie.close
     (tie.spec
-    returns
-    magnitude-requires
-    returns-2
-    magnitude-requires-2
-    returns-3
-    magnitude-requires-3
-    returns-4)
+    returns (λ c κs. search needs) returns-2 (λ c κs. search needs) returns-3 (λ c κs. search needs) returns-4)

@@ -14,9 +14,6 @@ use Rattle.engine.specs.Step.{loadedWithin, workable}
 use Rattle.engine.proofs.limits.workable.Statement.{statement}
 use Rattle.engine.proofs.limits.workable.Tie as tie
 
-loaded-within-requires : tie.Need-loaded-within-requires
-loaded-within-requires c κs = search needs
-
 returns : tie.Need-returns
 unfolding workable
 returns c = rw (sym (c .before .loaded-within .ensures) ∙ not-true _ (c .if1 .taken))
@@ -27,9 +24,6 @@ start1 c = c .before .before
 
 loaded-at : (c : tie.Else1) → loadedWithin (start1 c .args .st .loaded) ≡ true
 loaded-at c = sym (c .before .loaded-within .ensures) ∙ not-false _ (c .if1 .left)
-
-magnitude-requires : tie.Need-magnitude-requires
-magnitude-requires c κs = search needs
 
 abbrev start2 : tie.After-magnitude → tie.Start
 start2 c = start1 (c .before .before)
@@ -46,9 +40,6 @@ returns-2 c = rw (loaded-at (c .before .before .before), q-is (c .before), lt-le
 q-at : (c : tie.Else2) → leb (natAbs (start2 (c .before) .args .st .q)) 20000000 ≡ true
 q-at c = rw (q-is (c .before)) (le-leb _ _ (c .if2 .left))
 
-within-requires : tie.Need-within-requires
-within-requires c κs = search needs
-
 returns-3 : tie.Need-returns-3
 unfolding workable
 returns-3 c =
@@ -61,9 +52,6 @@ start3 c = start2 (c .before .before .before)
 s-at : (c : tie.Else3) → within 500000 2000000 (start3 c .args .st .s) ≡ true
 s-at c = sym (c .before .within .ensures) ∙ not-false _ (c .if3 .left)
 
-mode-within-requires : tie.Need-mode-within-requires
-mode-within-requires c κs = search needs
-
 returns-4 : tie.Need-returns-4
 unfolding workable
 returns-4 c =
@@ -73,9 +61,6 @@ returns-4 c =
 
 mode-at : (c : tie.Else4) → modeWithin (start3 (c .before .before) .args .st .mode) ≡ true
 mode-at c = sym (c .before .mode-within .ensures) ∙ not-false _ (c .if4 .left)
-
-integration-within-requires : tie.Need-integration-within-requires
-integration-within-requires c κs = search needs
 
 returns-5 : tie.Need-returns-5
 unfolding workable
@@ -88,13 +73,5 @@ pub workable-spec : {M : Type 1} → statement M
 workable-spec =
     tie.close
     (tie.spec
-    loaded-within-requires
-    returns
-    magnitude-requires
-    returns-2
-    within-requires
-    returns-3
-    mode-within-requires
-    returns-4
-    integration-within-requires
-    returns-5)
+    (λ c κs. search needs) returns (λ c κs. search needs) returns-2 (λ c κs. search needs) returns-3 (λ c κs. search needs) returns-4
+    (λ c κs. search needs) returns-5)

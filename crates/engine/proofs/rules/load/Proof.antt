@@ -5,21 +5,6 @@ use borrow.Author.Needs.{needs}
 use Rattle.engine.proofs.rules.load.Statement.{statement}
 use Rattle.engine.proofs.rules.load.Tie as tie
 
-find-sheet-requires : tie.Need-find-sheet-requires
-find-sheet-requires c κs = search needs
-
-enum-known-s : tie.Need-enum-known-s
-enum-known-s c = search needs
-
-idle-with-requires : tie.Need-idle-with-requires
-idle-with-requires c κs = search needs
-
-enum-known-number : tie.Need-enum-known-number
-enum-known-number c = search needs
-
-refuse-requires : tie.Need-refuse-requires
-refuse-requires c κs = search needs
-
 returns : tie.Need-returns
 returns c = rw (c .idle-with .ensures, ← c .before .before .before .before .find-sheet .ensures, c .before .before .s .given .1)
 
@@ -32,4 +17,5 @@ returns-2 c =
 pub load-spec : {M : Type 1} → statement M
 load-spec =
     tie.close
-    (tie.spec find-sheet-requires enum-known-s idle-with-requires enum-known-number refuse-requires returns returns-2)
+    (tie.spec
+    (λ c κs. search needs) (λ c. search needs) (λ c κs. search needs) (λ c. search needs) (λ c κs. search needs) returns returns-2)

@@ -7,32 +7,14 @@ use borrow.Author.Needs.{needs}
 use Rattle.engine.proofs.rules.reference.Statement.{statement}
 use Rattle.engine.proofs.rules.reference.Tie as tie
 
-enum-told : tie.Need-enum-told
-enum-told c = search needs
-
-enum-told-2 : tie.Need-enum-told-2
-enum-told-2 c = search needs
-
-refuse-requires : tie.Need-refuse-requires
-refuse-requires c κs = search needs
-
 returns : tie.Need-returns
 returns c = rw (c .refuse .ensures, c .before .enum-told2 .given .1)
-
-refuse-requires-2 : tie.Need-refuse-requires-2
-refuse-requires-2 c κs = search needs
 
 returns-2 : tie.Need-returns-2
 returns-2 c = rw (c .refuse2 .ensures, c .before .before .enum-told .given .1, lt-leb _ _ (c .before .if1 .taken))
 
-refuse-requires-3 : tie.Need-refuse-requires-3
-refuse-requires-3 c κs = search needs
-
 returns-3 : tie.Need-returns-3
 returns-3 c = rw (c .refuse3 .ensures, c .before .before .before .enum-told .given .1, le-leb _ _ (c .before .before .if1 .left), lt-leb _ _ (c .before .if2 .taken))
-
-idle-with-requires : tie.Need-idle-with-requires
-idle-with-requires c κs = search needs
 
 returns-4 : tie.Need-returns-4
 returns-4 c =
@@ -44,13 +26,5 @@ pub reference-spec : {M : Type 1} → statement M
 reference-spec =
     tie.close
     (tie.spec
-    enum-told
-    enum-told-2
-    refuse-requires
-    returns
-    refuse-requires-2
-    returns-2
-    refuse-requires-3
-    returns-3
-    idle-with-requires
-    returns-4)
+    (λ c. search needs) (λ c. search needs) (λ c κs. search needs) returns (λ c κs. search needs) returns-2 (λ c κs. search needs) returns-3
+    (λ c κs. search needs) returns-4)

@@ -23,35 +23,11 @@ use Rattle.engine.proofs.Workable.{work, sheet-in}
 use Rattle.engine.proofs.rules.span.Statement.{statement}
 use Rattle.engine.proofs.rules.span.Tie as tie
 
-enum-known-loaded : tie.Need-enum-known-loaded
-enum-known-loaded c = search needs
-
-enum-told : tie.Need-enum-told
-enum-told c = search needs
-
-refuse-requires : tie.Need-refuse-requires
-refuse-requires c κs = search needs
-
 returns : tie.Need-returns
 returns c = rw (c .refuse .ensures, c .before .enum-told .given .1)
 
-enum-told-2 : tie.Need-enum-told-2
-enum-told-2 c = search needs
-
-enum-told-3 : tie.Need-enum-told-3
-enum-told-3 c = search needs
-
-refuse-requires-2 : tie.Need-refuse-requires-2
-refuse-requires-2 c κs = search needs
-
 returns-2 : tie.Need-returns-2
 returns-2 c = rw (c .refuse2 .ensures, c .before .before .before .before .loaded .given .1, c .before .enum-told3 .given .1)
-
-input-within-requires : tie.Need-input-within-requires
-input-within-requires c κs = search needs
-
-refuse-requires-3 : tie.Need-refuse-requires-3
-refuse-requires-3 c κs = search needs
 
 -- ---- what is known where check 6 is made, and after each check that is passed
 abbrev start1 : tie.After-input-within → tie.Start
@@ -77,23 +53,11 @@ returns-3 c =
     let d = c .before .before in
     rw (c .refuse3 .ensures, loaded-at d, mode-at d, sym (d .input-within .ensures) ∙ not-true _ (c .before .if1 .taken))
 
-within-requires : tie.Need-within-requires
-within-requires c κs = search needs
-
-refuse-requires-4 : tie.Need-refuse-requires-4
-refuse-requires-4 c κs = search needs
-
 returns-4 : tie.Need-returns-4
 returns-4 c =
     let e = c .before .before .before in
     let d = e .before in
     rw (c .refuse4 .ensures, loaded-at d, mode-at d, input-at e, sym (c .before .before .within .ensures) ∙ not-true _ (c .before .if2 .taken))
-
-wide-requires : tie.Need-wide-requires
-wide-requires c κs = search needs
-
-air-of-requires : tie.Need-air-of-requires
-air-of-requires c κs = search needs
 
 raw-is : (c : tie.After-wide) → c .wide .result ≡ start2 (c .before .before) .args .at .raw
 raw-is c =
@@ -112,9 +76,6 @@ span-setting-requires c κs =
     let fq : SFits w64 (s .args .st .q) = search needs in
     let fw : SFits w64 (w .wide .result) = search needs in
     simp toZ-ofZ (sheet-in (o .loaded) (loaded-at d), rw (c .before .air-of .ensures) (i .air), rw (raw-is w) (i .raw), o .q, r .0, r .1)
-
-spanned-requires : tie.Need-spanned-requires
-spanned-requires c κs = search needs
 
 -- what the search finds, in the state's and the event's terms
 abbrev start3 : tie.After-span-setting → tie.Start
@@ -153,22 +114,6 @@ pub span-spec : {M : Type 1} → statement M
 span-spec =
     tie.close
     (tie.spec
-    enum-known-loaded
-    enum-told
-    refuse-requires
-    returns
-    enum-told-2
-    enum-told-3
-    refuse-requires-2
-    returns-2
-    input-within-requires
-    refuse-requires-3
-    returns-3
-    within-requires
-    refuse-requires-4
-    returns-4
-    wide-requires
-    air-of-requires
-    span-setting-requires
-    spanned-requires
-    returns-5)
+    (λ c. search needs) (λ c. search needs) (λ c κs. search needs) returns (λ c. search needs) (λ c. search needs) (λ c κs. search needs)
+    returns-2 (λ c κs. search needs) (λ c κs. search needs) returns-3 (λ c κs. search needs) (λ c κs. search needs) returns-4
+    (λ c κs. search needs) (λ c κs. search needs) span-setting-requires (λ c κs. search needs) returns-5)

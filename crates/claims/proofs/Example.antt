@@ -14,7 +14,7 @@ use Rattle.engine.specs.Transcript.{Line, transcript, recordOf}
 use Rattle.ledger.specs.Example.{exampleSheets, exampleEntries, exampleRows}
 use Rattle.ledger.proofs.Example.{example}
 use Rattle.format.specs.Header.{wellFormed}
-use Rattle.format.specs.Entries.{entryOf}
+use Rattle.entries.specs.Entries.{entryOf}
 use Rattle.forms.specs.declared.Form.{Form}
 use Rattle.session.specs.Transcript.{entriesOf, transcriptOf}
 use Rattle.forms.specs.Forms.{emittedFrom}

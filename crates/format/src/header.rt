@@ -3,7 +3,6 @@ ghost use mathlib.Core.Path.{_≡_};
 ghost use Prim.Native.Nat.{_≤_};
 ghost use lib.ListN.{length};
 ghost use Rattle.format.specs.Header.{sheetCount, eventCount, firstEvent, wellFormed};
-use crate::both;
 use fields::u32_at;
 
 // How many sheets the header says.
@@ -48,6 +47,6 @@ pub fn well_formed(file: &[u8]) -> bool
         return false;
     }
     let from = 16 + 24 * sheets;
-    let offsets = both(u32_at(file, 4) == 16, u32_at(file, 12) as usize == from);
-    both(offsets, file.len() == from + 24 * events)
+    let offsets = (u32_at(file, 4) == 16) & (u32_at(file, 12) as usize == from);
+    offsets & (file.len() == from + 24 * events)
 }

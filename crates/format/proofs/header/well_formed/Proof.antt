@@ -24,10 +24,9 @@ returns-3 c =
 returns-4 : tie.Need-returns-4
 unfolding wellFormed
 returns-4 c =
-    let o = c .before .before in
-    let t = o .before .before in
+    let t = c .before .before in
     let b = t .before .before in
-    rw (c .both2 .ensures, c .before .both .ensures, o .u32-at2 .ensures, o .before .u32-at .ensures, le-leb _ _ (b .before .before .if1 .left))
+    rw (c .u32-at2 .ensures, c .before .u32-at .ensures, le-leb _ _ (b .before .before .if1 .left))
     (rw (← b .before .sheet-count .ensures, le-leb _ _ (t .before .if2 .left), ← b .event-count .ensures, le-leb _ _ (t .if3 .left), and-true))
 
 pub well-formed-spec : {M : Type 1} → statement M
@@ -35,5 +34,4 @@ well-formed-spec =
     tie.close
     (tie.spec
     returns (λ c κs. search needs) (λ c κs. search needs) returns-2 returns-3 (λ c. search needs) (λ c. search needs) (λ c κs. search needs)
-    (λ c κs. search needs) (λ c. search needs) (λ c κs. search needs) (λ c. search needs) (λ c. search needs) (λ c κs. search needs)
-    returns-4)
+    (λ c κs. search needs) (λ c. search needs) (λ c. search needs) (λ c. search needs) returns-4)

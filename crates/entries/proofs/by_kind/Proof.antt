@@ -1,23 +1,21 @@
--- `format::entries::by_kind` meets its contract, kind by kind. Assumes nothing.
+-- `entries::by_kind` meets its contract, kind by kind. Assumes nothing.
 use mathlib.Core.Path.{_≡_}
 use mir.Syntax.{w32}
 use mir.Val.{toZ, ofZ}
 use borrow.Author.Tests.{ne-eqb}
 use borrow.Author.Needs.{needs}
-use Rattle.format.proofs.entries.by_kind.Statement.{statement}
-use Rattle.format.proofs.entries.by_kind.Tie as tie
+use Rattle.entries.proofs.by_kind.Statement.{statement}
+use Rattle.entries.proofs.by_kind.Tie as tie
 
 returns : tie.Need-returns
-returns c =
-    let b = c .before .before in
-    rw (c .known-if .ensures, c .before .both .ensures, b .no-air .ensures, b .before .no-raw .ensures, b .before .before .match .keys1)
+returns c = let b = c .before in rw (c .known-if .ensures, b .no-air .ensures, b .before .no-raw .ensures, b .before .before .match .keys1)
 
 returns-2 : tie.Need-returns-2
 returns-2 c =
     let b = c .before .before in
-    let m = b .before .before .before in
+    let m = b .before .before in
     let raw : toZ w32 (ofZ w32 (m .before .args .r .raw)) ≡ m .before .args .r .raw = search needs in
-    rw (c .known-if2 .ensures, raw, b .both2 .ensures, b .before .no-air2 .ensures, b .before .before .no-cylinder .ensures, m .match .keys2)
+    rw (c .known-if2 .ensures, raw, b .no-air2 .ensures, b .before .no-cylinder .ensures, m .match .keys2)
 
 returns-3 : tie.Need-returns-3
 returns-3 c = rw (c .measured .ensures, c .before .match .keys3)
@@ -55,5 +53,4 @@ by-kind-spec =
     (λ c κs. search needs) (λ c κs. search needs) (λ c κs. search needs) (λ c κs. search needs) (λ c κs. search needs)
     (λ c κs. search needs) (λ c κs. search needs) (λ c κs. search needs) (λ c κs. search needs) (λ c κs. search needs)
     (λ c κs. search needs) (λ c κs. search needs) (λ c κs. search needs) (λ c κs. search needs) (λ c κs. search needs)
-    (λ c κs. search needs) (λ c κs. search needs) returns returns-2 returns-3 returns-4 returns-5 returns-6 returns-7 returns-8 returns-9
-    returns-10)
+    returns returns-2 returns-3 returns-4 returns-5 returns-6 returns-7 returns-8 returns-9 returns-10)

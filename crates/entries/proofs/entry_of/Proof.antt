@@ -1,9 +1,9 @@
--- `format::entries::entry_of` meets its contract, by the test of the three bytes. Assumes nothing.
+-- `entries::entry_of` meets its contract, by the test of the three bytes. Assumes nothing.
 use borrow.Author.Tests.{eq-eqb, ne-eqb}
-use Rattle.format.specs.Entries.{entryOf}
+use Rattle.entries.specs.Entries.{entryOf}
 use borrow.Author.Needs.{needs}
-use Rattle.format.proofs.entries.entry_of.Statement.{statement}
-use Rattle.format.proofs.entries.entry_of.Tie as tie
+use Rattle.entries.proofs.entry_of.Statement.{statement}
+use Rattle.entries.proofs.entry_of.Tie as tie
 
 returns : tie.Need-returns
 unfolding entryOf

@@ -2,8 +2,7 @@
 ghost use mathlib.Core.Path.{_≡_};
 ghost use mathlib.Core.Bool.{_&&_};
 ghost use lib.Dec.{eqb};
-ghost use Rattle.format.specs.Entries.{noRaw, noCylinder, noAir, noFields, measured as Entries·measured, knownIf, byKind, entryOf};
-use crate::both;
+ghost use Rattle.entries.specs.Entries.{noRaw, noCylinder, noAir, noFields, measured as Entries·measured, knownIf, byKind, entryOf};
 use engine::Entry;
 use engine::Event;
 use layout::EventRecord;
@@ -26,16 +25,8 @@ fn by_kind(r: EventRecord) -> Entry
 {
     let kind = r.kind;
     match kind {
-        1 => known_if(
-            both(no_raw(r), no_air(r)),
-            r,
-            Event::Load { index: r.cylinder },
-        ),
-        2 => known_if(
-            both(no_cylinder(r), no_air(r)),
-            r,
-            Event::Zero { raw: r.raw },
-        ),
+        1 => known_if(no_raw(r) & no_air(r), r, Event::Load { index: r.cylinder }),
+        2 => known_if(no_cylinder(r) & no_air(r), r, Event::Zero { raw: r.raw }),
         3 => Entry::Known(Event::Span {
             at: measured(r),
             cylinder: r.cylinder,
@@ -83,20 +74,20 @@ fn no_cylinder(r: EventRecord) -> bool
 fn no_air(r: EventRecord) -> bool
     ensures { λ x. ⌜ x ≡ noAir r ⌝ }
 {
-    both(both(r.p == 0, r.t == 0), r.e == 0)
+    (r.p == 0) & (r.t == 0) & (r.e == 0)
 }
 
 // A reference has C and e.
 fn reference_only(r: EventRecord) -> bool
     ensures { λ x. ⌜ x ≡ (noRaw r && eqb (r .p) 0 && eqb (r .t) 0) ⌝ }
 {
-    both(both(no_raw(r), r.p == 0), r.t == 0)
+    no_raw(r) & (r.p == 0) & (r.t == 0)
 }
 
 fn no_fields(r: EventRecord) -> bool
     ensures { λ x. ⌜ x ≡ noFields r ⌝ }
 {
-    both(both(no_raw(r), no_cylinder(r)), no_air(r))
+    no_raw(r) & no_cylinder(r) & no_air(r)
 }
 
 fn measured(r: EventRecord) -> Measurement

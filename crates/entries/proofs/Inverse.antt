@@ -12,7 +12,7 @@ use Rattle.layout.specs.declared.EventRecord.{EventRecord}
 use Rattle.engine.specs.declared.Event.{Event}
 use Rattle.engine.specs.declared.Event.the-variants.{Load, Zero, Span, Reference, Absolute, Sample, Start, Stop, Area}
 use Rattle.engine.specs.declared.Entry.{Entry}
-use Rattle.format.specs.Entries.{noRaw, noCylinder, noAir, noFields, measured, knownIf, byKind, entryOf, fields, recordOfEvent, EntryInverse}
+use Rattle.entries.specs.Entries.{noRaw, noCylinder, noAir, noFields, measured, knownIf, byKind, entryOf, fields, recordOfEvent, EntryInverse}
 
 pub record-known : (e : Event) → entryOf (recordOfEvent e) ≡ Entry.Known e
 unfolding entryOf

@@ -1,6 +1,6 @@
--- `format::entries::known_if` meets its contract, by the test. Assumes nothing.
-use Rattle.format.proofs.entries.known_if.Statement.{statement}
-use Rattle.format.proofs.entries.known_if.Tie as tie
+-- `entries::known_if` meets its contract, by the test. Assumes nothing.
+use Rattle.entries.proofs.known_if.Statement.{statement}
+use Rattle.entries.proofs.known_if.Tie as tie
 
 returns : tie.Need-returns
 returns c = rw (c .if1 .taken)

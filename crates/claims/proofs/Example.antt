@@ -18,7 +18,7 @@ use Rattle.entries.specs.Entries.{entryOf}
 use Rattle.forms.specs.declared.Form.{Form}
 use Rattle.session.specs.Transcript.{entriesOf, transcriptOf}
 use Rattle.forms.specs.Forms.{emittedFrom}
-use Rattle.session.specs.Text.{printedOf}
+use Rattle.printing.specs.Text.{printedOf}
 use Rattle.claims.specs.Example.{exampleFile, exampleText, ExamplePrinted}
 
 well : wellFormed exampleFile ≡ true

@@ -1,9 +1,9 @@
--- `session::print::print` meets its contract, in its three cases: too long, not well-formed, and a line for each event. Assumes
+-- `printing::print` meets its contract, in its three cases: too long, not well-formed, and a line for each event. Assumes
 -- nothing.
 use borrow.Author.Needs.{needs}
-use Rattle.session.proofs.Printing.{prints-long, prints-refused, prints-lines}
-use Rattle.session.proofs.print.print.Statement.{statement}
-use Rattle.session.proofs.print.print.Tie as tie
+use Rattle.printing.proofs.Printing.{prints-long, prints-refused, prints-lines}
+use Rattle.printing.proofs.print.Statement.{statement}
+use Rattle.printing.proofs.print.Tie as tie
 
 returns : tie.Need-returns
 returns c = rw (prints-long _ (c .before .before .if1 .taken)) (c .put-refused .ensures)

@@ -11,9 +11,9 @@ use Rattle.text.specs.Line.{decimal, signedDecimal, lineOf, lineRoom}
 use Rattle.format.specs.Header.{wellFormed}
 use Rattle.format.proofs.Shape.{shape}
 use Rattle.forms.specs.declared.Form.{Form}
 use Rattle.session.specs.Run.{FillsAs}
-use Rattle.session.specs.Text.{refusedLine, linesOf, printedOf}
+use Rattle.printing.specs.Text.{refusedLine, linesOf, printedOf}
 use Rattle.session.proofs.Outcome.{status-0, served}
 
 pub refused-length : length refusedLine ≡ 13
 unfolding lineOf decimal signedDecimal

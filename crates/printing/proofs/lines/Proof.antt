@@ -1,7 +1,7 @@
--- `session::print::lines` meets its contract: it is `fill` with that form. Assumes nothing.
+-- `printing::lines` meets its contract: it is `fill` with that form. Assumes nothing.
 use borrow.Author.Needs.{needs}
-use Rattle.session.proofs.print.lines.Statement.{statement}
-use Rattle.session.proofs.print.lines.Tie as tie
+use Rattle.printing.proofs.lines.Statement.{statement}
+use Rattle.printing.proofs.lines.Tie as tie
 
 returns : tie.Need-returns
 returns c = c .before .before .fill .ensures

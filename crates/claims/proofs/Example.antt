@@ -14,11 +14,11 @@ use Rattle.engine.specs.Transcript.{Line, transcript, recordOf}
 use Rattle.ledger.specs.Example.{exampleSheets, exampleEntries, exampleRows}
 use Rattle.ledger.proofs.Example.{example}
 use Rattle.format.specs.Header.{wellFormed}
-use Rattle.format.specs.Entries.{entryOf}
+use Rattle.entries.specs.Entries.{entryOf}
 use Rattle.forms.specs.declared.Form.{Form}
 use Rattle.session.specs.Transcript.{entriesOf, transcriptOf}
 use Rattle.forms.specs.Forms.{emittedFrom}
-use Rattle.session.specs.Text.{printedOf}
+use Rattle.printing.specs.Text.{printedOf}
 use Rattle.claims.specs.Example.{exampleFile, exampleText, ExamplePrinted}
 
 well : wellFormed exampleFile ≡ true

@@ -14,11 +14,11 @@ use Rattle.sheets.specs.Sheets.{sheetsHeld}
 use Rattle.engine.specs.Transcript.{Line, recordWith}
 use Rattle.ledger.specs.Claim.{Demand3}
 use Rattle.format.specs.Header.{sheetCount, eventCount, firstEvent, wellFormed, sheetsOf}
-use Rattle.format.specs.Entries.{entryOf}
+use Rattle.entries.specs.Entries.{entryOf}
 use Rattle.forms.specs.declared.Form.{Form}
 use Rattle.session.specs.Transcript.{entriesOf, transcriptOf}
 use Rattle.session.specs.Run.{FillsAs}
-use Rattle.session.specs.Text.{linesOf}
+use Rattle.printing.specs.Text.{linesOf}
 
 -- the line is the transcript's line i, counted from 0; past the last one there is none
 abbrev pub LineIs : List ℕ → ℕ → Line → Type 0

@@ -4,7 +4,7 @@ use Prim.Native.Nat.{ℕ}
 use mathlib.Core.List.{List, [], _∷_, _++_}
 use mathlib.Core.Path.{_≡_}
 use Rattle.ledger.specs.Example.{word, exampleSheets}
-use Rattle.session.specs.Text.{printedOf}
+use Rattle.printing.specs.Text.{printedOf}
 
 abbrev pub zeroWord : List ℕ
 zeroWord = word 0 0 0 0

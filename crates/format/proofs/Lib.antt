@@ -1,4 +1,2 @@
-pub mod Zero
 pub mod Shape
-pub mod Inverse
 pub mod File

@@ -1,3 +1,2 @@
 pub mod Header
-pub mod Entries
 pub mod File

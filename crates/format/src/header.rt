@@ -3,7 +3,6 @@ ghost use mathlib.Core.Path.{_≡_};
 ghost use Prim.Native.Nat.{_≤_};
 ghost use lib.ListN.{length};
 ghost use Rattle.format.specs.Header.{sheetCount, eventCount, firstEvent, wellFormed};
-use crate::both;
 use fields::u32_at;
 
 // How many sheets the header says.
@@ -38,16 +37,13 @@ pub fn well_formed(file: &[u8]) -> bool
     if file.len() < 16 {
         return false;
     }
-    let sheets = sheet_count(file);
-    let events = event_count(file);
-    // The counts first, so that the sums below stay small.
-    if 16 < sheets {
-        return false;
-    }
-    if 2700 < events {
-        return false;
-    }
+    // Words of 32 bits, so that no sum below overflows.
+    let sheets = u32_at(file, 0) as usize;
+    let events = u32_at(file, 8) as usize;
     let from = 16 + 24 * sheets;
-    let offsets = both(u32_at(file, 4) == 16, u32_at(file, 12) as usize == from);
-    both(offsets, file.len() == from + 24 * events)
+    (sheets <= 16)
+        & (u32_at(file, 4) == 16)
+        & (events <= 2700)
+        & (u32_at(file, 12) as usize == from)
+        & (file.len() == from + 24 * events)
 }

@@ -12,7 +12,7 @@ use Rattle.text.specs.Line.{lineOf}
 use Rattle.engine.specs.declared.State.{State}
 use Rattle.engine.specs.declared.Stepped.{Stepped}
 use Rattle.engine.specs.Transcript.{Line, lineAt, recordOf, recordWith}
-use Rattle.format.specs.Entries.{entryOf}
+use Rattle.entries.specs.Entries.{entryOf}
 use Rattle.forms.specs.declared.Form.{Form}
 use Rattle.forms.specs.Forms.{emitted, roomOf, roomFrom}
 use Rattle.forms.proofs.KindByte.{kind-kept}

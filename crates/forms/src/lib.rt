@@ -6,7 +6,7 @@ ghost use lib.ListN.{length};
 ghost use Rattle.layout.specs.Lent.{Puts};
 ghost use Rattle.engine.specs.Answer.{mOf};
 ghost use Rattle.engine.specs.Transcript.{lineAt, recordWith};
-ghost use Rattle.format.specs.Entries.{entryOf};
+ghost use Rattle.entries.specs.Entries.{entryOf};
 ghost use Rattle.forms.specs.Forms.{emitted, roomOf};
 use engine::Answer;
 use engine::State;

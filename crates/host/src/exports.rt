@@ -7,7 +7,7 @@ ghost use Rattle.doubles.specs.Doubles.{hostRefusal, hostValues, hostSampleIn, 
 use doubles::HostAnswer;
 use doubles::answers::area_in;
 use doubles::answers::sample_in;
-use session::print::lines;
+use printing::lines;
 use session::run::run;
 
 // Answers a whole session file into `out`: 0, or refusal 12 or 13, which leaves `out` as it was. `written` becomes the count of

@@ -8,6 +8,6 @@ fn main() {
     let mut input = [0u8; 65537];
     let n = io::read_full(STDIN_FILENO, &mut input);
     let mut text = [0u8; 194400];
-    let k = session::print::print(&input[..n], &mut text);
+    let k = printing::print(&input[..n], &mut text);
     io::write_all(STDOUT_FILENO, &text[..k]);
 }

@@ -1,4 +1,3 @@
 pub mod Transcript
 pub mod Turn
 pub mod Outcome
-pub mod Printing

@@ -1,3 +1,2 @@
-// A session file run: its events answered in turn, as records and as lines.
-pub mod print;
+// A session file run: its events answered in turn, in any form.
 pub mod run;

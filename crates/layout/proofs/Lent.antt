@@ -4,6 +4,7 @@ use Prim.Native.Nat.{ℕ, _≤_}
 use native.Mathlib.Omega.{arith}
 use mathlib.Core.List.{List, [], _++_}
 use mathlib.Core.Path.{_≡_, refl, sym, _∙_}
+use borrow.Author.Tests.{ne-eqb}
 use lib.ListN.{length, length-append, length-take, length-drop}
 use Rattle.layout.specs.Lent.{Puts, Fills}
 use Rattle.layout.proofs.Splices.{splice-none, next}
@@ -30,7 +31,22 @@ module _ {old : List ℕ} {at : ℕ} {bytes out : List ℕ} {past : ℕ} (p : Pu
 -- ---- how a tool ends that fills a buffer, as its status says
 module _ {due : ℕ} {bytes old : List ℕ} {status : ℕ} (e : status ≡ due) where
   pub turned-away : (status ≡ 0 → ⊥) → Fills due bytes old status 0 old
-  turned-away h = record { ended = e; filled = λ z. absurd (h (e ∙ z)); kept = λ n. (refl, refl) }
+  turned-away h =
+      let n = ne-eqb due 0 (λ z. h (e ∙ z)) in
+      record { ended = e; counted = rw n; stands = rw n; room = λ z. absurd (h (e ∙ z)) }
 
   pub filled : {written : ℕ} {out : List ℕ} → status ≡ 0 → Puts old 0 bytes out written → Fills due bytes old status written out
-  filled z p = record { ended = e; filled = λ d. p; kept = λ n. absurd (n (sym e ∙ z)) }
+  filled z p =
+      let d : due ≡ 0 = sym e ∙ z in
+      let w = p .ends in let r = p .room in
+      record { ended = e; counted = rw d (omega arith); stands = rw d (p .stands); room = λ _. omega arith }
+
+-- and what that tells
+module _ {due : ℕ} {bytes old : List ℕ} {status written : ℕ} {out : List ℕ} (f : Fills due bytes old status written out) where
+  pub fills-puts : due ≡ 0 → Puts old 0 bytes out written
+  fills-puts d =
+      let c = rw d at (f .counted) in let r = f .room d in
+      record { ends = omega arith; room = omega arith; stands = rw d at (f .stands) }
+
+  pub fills-kept : (due ≡ 0 → ⊥) → (written ≡ 0) × (out ≡ old)
+  fills-kept n = let m = ne-eqb due 0 n in (rw m at (f .counted), rw m at (f .stands))

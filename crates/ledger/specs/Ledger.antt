@@ -18,7 +18,6 @@ use Rattle.engine.specs.declared.Event.{Event}
 use Rattle.engine.specs.declared.Entry.{Entry}
 use Rattle.engine.specs.declared.Answer.{Answer}
 use Rattle.engine.specs.Answer.{mOf, accepted, kindOf}
-use Rattle.counting.specs.Integration.{integrationLimit}
 use Rattle.sheets.specs.Sheets.{asSheet}
 use Rattle.sampling.specs.Sample.{airOf}
 
@@ -62,10 +61,14 @@ exactValue g at r = exactOn (g .sheet) g at r
 abbrev pub refusedBy : Ledger → Entry → Ledger
 refusedBy g entry = cond (eqb (kindOf entry) 6) (withSeries g (g .series) false) g
 
+-- how many values a series takes: the ledger's own number, and none of the engine's
+abbrev pub seriesLimit : ℕ
+seriesLimit = 600000
+
 -- a running series takes the value at its end; after the 600,000th it no longer runs
 abbrev pub taken : Ledger → Fraction → Ledger
 taken g x =
-    cond (g .runs) (withSeries g (g .series ++ (x ∷ [])) (not (eqb (length (g .series) + 1) integrationLimit))) g
+    cond (g .runs) (withSeries g (g .series ++ (x ∷ [])) (not (eqb (length (g .series) + 1) seriesLimit))) g
 
 abbrev pub acceptedBy : List ℕ → Ledger → Entry → Answer → Ledger
 acceptedBy sheets g (Entry.Known (Event.Load index)) a = settled (Loaded.One (asSheet (sheetAt sheets (24 * index)))) (pos 0) 1000000 Mode.Absolute

@@ -7,6 +7,7 @@ use mathlib.Core.Path.{_≡_, refl, sym, _∙_}
 use borrow.Author.Tests.{le-leb, lt-leb}
 use lib.ListN.{length}
 use Rattle.layout.specs.Lent.{Puts}
+use Rattle.layout.proofs.Lent.{fills-puts, fills-kept}
 use Rattle.text.specs.Line.{decimal, signedDecimal, lineOf, lineRoom}
 use Rattle.format.specs.Header.{wellFormed}
 use Rattle.format.proofs.Shape.{shape}
@@ -35,10 +36,10 @@ module _ (file : List ℕ) where
 
     pub prints-refused : lineRoom * 2700 ≤ length old → (status ≡ 0 → ⊥) → (printedOf file ≡ refusedLine) × (out ≡ old)
     unfolding printedOf
-    prints-refused r h = (rw (le-leb (length file) 65536 l, unformed r h), f .kept (λ z. h (f .ended ∙ z)) .1)
+    prints-refused r h = (rw (le-leb (length file) 65536 l, unformed r h), fills-kept f (λ z. h (f .ended ∙ z)) .1)
 
     pub prints-lines : status ≡ 0 → Puts old 0 (printedOf file) out written
     unfolding printedOf
     prints-lines z =
         let p : printedOf file ≡ linesOf file = rw (le-leb (length file) 65536 l, served Form.Lines file (length old) (f .ended) z .formed) in
-        rw p (f .filled (sym (f .ended) ∙ z))
+        rw p (fills-puts f (sym (f .ended) ∙ z))

@@ -4,7 +4,7 @@ ghost use mathlib.Core.Path.{_≡_};
 ghost use mathlib.Core.List.{[], _∷_};
 ghost use Prim.Native.Nat.{_+_, _≤_, _<_};
 ghost use lib.ListN.{length};
-ghost use Rattle.layout.specs.Fields.{splice};
+ghost use Rattle.layout.specs.Lent.{Puts};
 ghost use Rattle.text.specs.Line.{decimal, signedDecimal, lineOf, lineRoom};
 use layout::AnswerRecord;
 use rounding::signed::below_zero;
@@ -13,7 +13,8 @@ use rounding::signed::magnitude;
 // Puts the line of an answer: ordinal, kind, refusal, m, x, y.
 pub fn put_line(out: &mut [u8], at: usize, ordinal: u32, a: AnswerRecord) -> usize
     requires { ⌜ at + lineRoom ≤ length (now out) ⌝ }
-    ensures { λ r. ⌜ (r ≡ at + length (lineOf ordinal a)) × (now (out .exit) ≡ splice (now (out .entry)) at (lineOf ordinal a)) × (length (lineOf ordinal a) ≤ lineRoom) ⌝ }
+    ensures { λ r. ⌜ Puts (now (out .entry)) at (lineOf ordinal a) (now (out .exit)) r ⌝ }
+    ensures { λ r. ⌜ r ≤ at + lineRoom ⌝ }
 {
     let at = put_decimal(out, at, ordinal as u64);
     let at = put_spaced(out, at, a.kind as u64);
@@ -27,7 +28,7 @@ pub fn put_line(out: &mut [u8], at: usize, ordinal: u32, a: AnswerRecord) -> usi
 // Puts a number, with a space before it.
 fn put_spaced(out: &mut [u8], at: usize, n: u64) -> usize
     requires { ⌜ at + length (32 ∷ decimal n) ≤ length (now out) ⌝ }
-    ensures { λ r. ⌜ (r ≡ at + length (32 ∷ decimal n)) × (now (out .exit) ≡ splice (now (out .entry)) at (32 ∷ decimal n)) ⌝ }
+    ensures { λ r. ⌜ Puts (now (out .entry)) at (32 ∷ decimal n) (now (out .exit)) r ⌝ }
 {
     let next = put_byte(out, at, b' ');
     put_decimal(out, next, n)
@@ -36,7 +37,7 @@ fn put_spaced(out: &mut [u8], at: usize, n: u64) -> usize
 // Puts a signed number, with a space before it.
 fn put_spaced_signed(out: &mut [u8], at: usize, x: i64) -> usize
     requires { ⌜ at + length (32 ∷ signedDecimal x) ≤ length (now out) ⌝ }
-    ensures { λ r. ⌜ (r ≡ at + length (32 ∷ signedDecimal x)) × (now (out .exit) ≡ splice (now (out .entry)) at (32 ∷ signedDecimal x)) ⌝ }
+    ensures { λ r. ⌜ Puts (now (out .entry)) at (32 ∷ signedDecimal x) (now (out .exit)) r ⌝ }
 {
     let next = put_byte(out, at, b' ');
     put_signed(out, next, x)
@@ -45,7 +46,7 @@ fn put_spaced_signed(out: &mut [u8], at: usize, x: i64) -> usize
 // Puts a signed number in decimal: a minus sign below 0, then how far it is from 0.
 fn put_signed(out: &mut [u8], at: usize, x: i64) -> usize
     requires { ⌜ at + length (signedDecimal x) ≤ length (now out) ⌝ }
-    ensures { λ r. ⌜ (r ≡ at + length (signedDecimal x)) × (now (out .exit) ≡ splice (now (out .entry)) at (signedDecimal x)) ⌝ }
+    ensures { λ r. ⌜ Puts (now (out .entry)) at (signedDecimal x) (now (out .exit)) r ⌝ }
 {
     let size = magnitude(x);
     if below_zero(x) {
@@ -59,7 +60,7 @@ fn put_signed(out: &mut [u8], at: usize, x: i64) -> usize
 // Puts a number in decimal, with no leading zeros: the digits of its tenth, then its last one.
 fn put_decimal(out: &mut [u8], at: usize, n: u64) -> usize
     requires { ⌜ at + length (decimal n) ≤ length (now out) ⌝ }
-    ensures { λ r. ⌜ (r ≡ at + length (decimal n)) × (now (out .exit) ≡ splice (now (out .entry)) at (decimal n)) ⌝ }
+    ensures { λ r. ⌜ Puts (now (out .entry)) at (decimal n) (now (out .exit)) r ⌝ }
 {
     if n < 10 {
         put_byte(out, at, 48 + n as u8)
@@ -79,7 +80,7 @@ pub fn digits(n: u64) -> usize
 // Puts a byte.
 fn put_byte(out: &mut [u8], at: usize, b: u8) -> usize
     requires { ⌜ at < length (now out) ⌝ }
-    ensures { λ r. ⌜ (r ≡ at + 1) × (now (out .exit) ≡ splice (now (out .entry)) at (b ∷ [])) ⌝ }
+    ensures { λ r. ⌜ Puts (now (out .entry)) at (b ∷ []) (now (out .exit)) r ⌝ }
 {
     out[at] = b;
     at + 1

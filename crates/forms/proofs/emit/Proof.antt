@@ -30,12 +30,8 @@ returns-2 c =
     let e = d .before .before .enum-told2 .given .1 in
     let r = d .before .before .before .before .record-of in
     let s = d .before .before .before .before .before .before in
-    let fit = rw e at (s .pre .1) in
-    let p = d .put-line .ensures in (
-      rw (lines-are (s .args .before) (s .args .event) (s .args .next) (r .ensures) _ e)
-          (record { ends = p .0; room = omega (arith, fit, p .0, p .2); stands = p .1 }),
-      rw e (omega (arith, p .0, p .2)),
-    )
+    let p = d .put-line .ensures in
+    (rw (lines-are (s .args .before) (s .args .event) (s .args .next) (r .ensures) _ e) (p .0), rw e (p .1))
 
 pub emit-spec : {M : Type 1} → statement M
 emit-spec =

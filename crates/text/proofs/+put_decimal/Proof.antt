@@ -1,14 +1,12 @@
 -- `text::put_decimal` meets its contract: a number of one digit is put as it is, any other by the digits of its tenth and its last
 -- one. The measure is the number. Assumes nothing.
-use mathlib.Core.List.{[], _∷_}
-use Prim.Native.Nat.{ℕ, _+_, _/_, _%_, _<_}
+use Prim.Native.Nat.{ℕ, _<_}
 use native.Mathlib.Omega.{arith}
 use borrow.Author.Needs.{needs}
 use borrow.Fn.Kinds.{In}
 use borrow.Fn.PlainCycle.{Measures, is, falls, and}
-use Rattle.text.specs.Line.{decimal}
+use Rattle.layout.proofs.Lent.{puts-both}
 use Rattle.text.proofs.Decimal.{one-digit, last-digit, one-long, one-longer}
-use Rattle.text.proofs.Pieces.{both}
 use Rattle.text.proofs.put_decimal.Reads as self
 use Rattle.text.proofs.put_decimal.Kinds as kinds
 use Rattle.text.proofs.+put_decimal.Lts-put_decimal as lts
@@ -67,12 +65,8 @@ module _ (t : ℕ) where
   returns-2 : lts.Need-returns-2 (claims t) (here t) self.Post
   returns-2 c =
       let b = c .before .before .before .before .before .before in
-      let s = b .before .before .before .before in
-      let e = last-digit (s .args .n) (b .before .before .if1 .left) (omega arith) in
-      let n = s .args .n in
-      rw e
-      (both (s .args .out .now) (decimal (n / 10)) ((48 + n % 10) ∷ []) (s .args .at) (b .put-decimal .ensures) (c .before .before .put-byte2 .ensures)
-      (rw e at (s .pre .1)))
+      rw (last-digit (b .before .before .before .before .args .n) (b .before .before .if1 .left) (omega arith))
+      (puts-both (b .put-decimal .ensures) (c .before .before .put-byte2 .ensures))
 
 pub +put-decimal-spec : {M : Type 1} → statement M
 +put-decimal-spec =

@@ -1,15 +1,14 @@
 -- `text::put_line` meets its contract: seven pieces, one after the other, whose bounds leave each its room. Assumes nothing.
 use Prim.Native.Nat.{_+_, _≤_}
 use native.Mathlib.Omega.{arith}
-use mathlib.Core.List.{[], _∷_}
 use mathlib.Core.Path.{_≡_}
 use lib.ListN.{length, length-append}
 use mir.Syntax.{w64}
 use mir.Val.{toZ, ofZ}
 use borrow.Author.Needs.{needs}
+use Rattle.layout.proofs.Lent.{puts-both}
 use Rattle.text.specs.Line.{decimal, signedDecimal, lineOf, lineRoom}
 use Rattle.text.proofs.Decimal.{line-fits}
-use Rattle.text.proofs.Pieces.{seven}
 use Rattle.text.proofs.put_line.Statement.{statement}
 use Rattle.text.proofs.put_line.Tie as tie
 use Rattle.text.proofs.put_line.Reads as self
@@ -114,13 +113,11 @@ returns c =
     let kind = refusal .before .before .before .before .before in
     let ordinal = kind .before .before .before .before .before in
     let s = of-ordinal ordinal in
-    let a = s .args .a in
-    let p =
-    seven (s .args .out .now) (decimal (s .args .ordinal)) (32 ∷ decimal (a .kind)) (32 ∷ decimal (a .refusal)) (32 ∷ decimal (a .m))
-    (32 ∷ signedDecimal (a .x)) (32 ∷ signedDecimal (a .y)) (10 ∷ []) (s .args .at) (ordinal .put-decimal .ensures)
-    (kind .put-spaced .ensures) (refusal .put-spaced2 .ensures) (m .put-spaced3 .ensures) (rw (kept-x s) at (x .put-spaced-signed .ensures))
-    (rw (kept-y s) at (y .put-spaced-signed2 .ensures)) (c .before .before .put-byte .ensures) (room s) in
-    (p .0, p .1, fits s)
+    let p = puts-both (ordinal .put-decimal .ensures) (kind .put-spaced .ensures) in
+    let p = puts-both (puts-both p (refusal .put-spaced2 .ensures)) (m .put-spaced3 .ensures) in
+    let p = puts-both p (rw (kept-x s) at (x .put-spaced-signed .ensures)) in
+    let p = puts-both (puts-both p (rw (kept-y s) at (y .put-spaced-signed2 .ensures))) (c .before .before .put-byte .ensures) in
+    (p, omega (arith, p .ends, fits s))
 
 pub put-line-spec : {M : Type 1} → statement M
 put-line-spec =

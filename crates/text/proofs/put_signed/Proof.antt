@@ -1,13 +1,13 @@
 -- `text::put_signed` meets its contract: below 0 a minus sign and the digits, else the digits. Assumes nothing.
 use native.Mathlib.Omega.{arith}
-use mathlib.Core.List.{[], _∷_}
+use mathlib.Core.List.{_∷_}
 use mathlib.Core.Path.{_≡_, ap}
 use lib.ListN.{length}
 use mir.Facts.{toZ-ofZ}
 use borrow.Author.Needs.{needs}
+use Rattle.layout.proofs.Lent.{puts-both}
 use Rattle.text.specs.Line.{decimal, signedDecimal}
 use Rattle.text.proofs.Decimal.{with-minus, as-it-is}
-use Rattle.text.proofs.Pieces.{both}
 use Rattle.text.proofs.put_signed.Statement.{statement}
 use Rattle.text.proofs.put_signed.Tie as tie
 
@@ -34,12 +34,7 @@ put-decimal-requires-2 c κs = omega (arith, ap length (plain (c .before)))
 returns : tie.Need-returns
 returns c =
     let p = c .before .before .before .before .before .before in
-    let i = p .before .before in
-    let s = i .before .before .before .before in
-    let e = minus i in
-    rw e
-    (both (s .args .out .now) (45 ∷ []) (decimal (i .before .before .magnitude .result)) (s .args .at) (p .put-byte .ensures)
-    (c .before .before .put-decimal .ensures) (rw e at (s .pre)))
+    rw (minus (p .before .before)) (puts-both (p .put-byte .ensures) (c .before .before .put-decimal .ensures))
 
 returns-2 : tie.Need-returns-2
 returns-2 c = rw (plain (c .before .before .before .before)) (c .before .before .put-decimal2 .ensures)

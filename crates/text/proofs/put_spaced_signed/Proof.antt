@@ -1,10 +1,8 @@
 -- `text::put_spaced_signed` meets its contract: a space, then the signed number. Assumes nothing.
 use native.Mathlib.Omega.{arith}
-use mathlib.Core.List.{[], _∷_}
 use mir.Facts.{toZ-ofZ}
 use borrow.Author.Needs.{needs}
-use Rattle.text.specs.Line.{signedDecimal}
-use Rattle.text.proofs.Pieces.{both}
+use Rattle.layout.proofs.Lent.{puts-both}
 use Rattle.text.proofs.put_spaced_signed.Statement.{statement}
 use Rattle.text.proofs.put_spaced_signed.Tie as tie
 
@@ -14,9 +12,7 @@ put-signed-requires c κs = rw (toZ-ofZ (c .before .before .before .before .befo
 returns : tie.Need-returns
 returns c =
     let b = c .before .before .before .before .before .before in
-    let s = b .before .before .before in
-    both (s .args .out .now) (32 ∷ []) (signedDecimal (s .args .x)) (s .args .at) (b .put-byte .ensures)
-    (rw (toZ-ofZ (s .fits .x)) at (c .before .before .put-signed .ensures)) (s .pre)
+    puts-both (b .put-byte .ensures) (rw (toZ-ofZ (b .before .before .before .fits .x)) at (c .before .before .put-signed .ensures))
 
 pub put-spaced-signed-spec : {M : Type 1} → statement M
 put-spaced-signed-spec = tie.close (tie.spec (λ c κs. search needs) put-signed-requires (λ c. search needs) returns)

@@ -12,15 +12,15 @@ use Rattle.curve.proofs.Bench.{starred-readings}
 use Rattle.reference.specs.declared.Found.{Found}
 use Rattle.reference.specs.Signal.{signalOf, againstOf}
 use Rattle.reference.proofs.Bench.{starred-references}
-use Rattle.engine.specs.declared.State.{State}
+use Rattle.rules.specs.declared.State.{State}
 use Rattle.counting.specs.declared.Integration.{Integration}
-use Rattle.engine.specs.declared.Answer.{Answer}
-use Rattle.engine.specs.declared.Stepped.{Stepped}
-use Rattle.engine.specs.Sample.{sampledOf}
+use Rattle.rules.specs.declared.Answer.{Answer}
+use Rattle.rules.specs.declared.Stepped.{Stepped}
+use Rattle.rules.specs.Sample.{sampledOf}
 use Rattle.counting.specs.Integration.{emptyTally, countedOf, tallyArea}
 use Rattle.sampling.specs.Sample.{sampledOn}
 use Rattle.sampling.specs.Span.{settingOf, spannedOn}
-use Rattle.engine.specs.Rules.{answered, withIntegration, spanBy, areaAnswer, rules}
+use Rattle.rules.specs.Rules.{answered, withIntegration, spanBy, areaAnswer, rules}
 use Rattle.engine.specs.Bench.{benchState, referenceState, countedOnce, sample, start, area, Answers, after, StarredCases}
 
 -- 2X less nothing, where n − 1 is 0

@@ -4,9 +4,9 @@ ghost use mathlib.Core.Bool.{_&&_};
 ghost use lib.Dec.{eqb};
 ghost use Rattle.format.specs.Entries.{noRaw, noCylinder, noAir, noFields, measured as Entries·measured, knownIf, byKind, entryOf};
 use crate::both;
-use engine::Entry;
-use engine::Event;
 use layout::EventRecord;
+use rules::Entry;
+use rules::Event;
 use sampling::Measurement;
 
 // The entry of a record, whatever its bytes were.

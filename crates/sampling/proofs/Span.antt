@@ -1,8 +1,10 @@
 -- What a span setting tells: the S that it sets is within its limits, and a refusal is 4, 5 or 6. Assumes nothing.
 use mathlib.Core.Bool.{Bool, true, false, cond}
-use mathlib.Core.Path.{_≡_, refl}
+use mathlib.Core.Path.{_≡_, refl, subst}
 use Prim.Native.Nat.{ℕ, _≤_}
 use native.Mathlib.Omega.{arith}
+use borrow.Author.Tests.{ne-eqb}
+use lib.Dec.{eqb}
 use lib.IntN.{ℤ}
 use Rattle.curve.specs.declared.Sheet.{Sheet}
 use Rattle.curve.specs.Limits.{within}
@@ -37,3 +39,7 @@ module _ (s : Sheet) (q : ℤ) (at : Measurement) (cylinder : ℕ) where
   pub span-told : SpanTold (spannedOn s q at cylinder)
   unfolding spannedOn
   span-told = of-input (inputWithin at)
+
+  -- no span setting is refused with 0
+  pub span-number : {number : ℕ} → spannedOn s q at cylinder ≡ Spanned.Refused number → eqb number 0 ≡ false
+  span-number {number} e = let n = subst SpanTold e span-told in ne-eqb number 0 (omega arith)

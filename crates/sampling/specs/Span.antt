@@ -11,6 +11,15 @@ use Rattle.sampling.specs.declared.Measurement.{Measurement}
 use Rattle.sampling.specs.declared.Spanned.{Spanned}
 use Rattle.sampling.specs.Sample.{airOf, inputWithin}
 
+-- the paper's refusal number of what a span setting gives, 0 if accepted, and the S that it sets, 0 if refused
+abbrev pub spannedRefusal : Spanned → ℕ
+spannedRefusal (Spanned.Value s) = 0
+spannedRefusal (Spanned.Refused number) = number
+
+abbrev pub spannedValue : Spanned → ℕ
+spannedValue (Spanned.Value s) = s
+spannedValue (Spanned.Refused number) = 0
+
 -- what was found: the S that it sets, or refusal 5
 abbrev pub settingOf : Found → Spanned
 settingOf f = cond (eqb (spanRefusal f) 0) (Spanned.Value (foundValue f)) (Spanned.Refused (spanRefusal f))

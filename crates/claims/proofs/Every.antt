@@ -12,7 +12,7 @@ use lib.ListN.{length, take, drop, length-take, length-drop}
 use lib.Seq.{take-take}
 use Rattle.layout.specs.Fields.{AreBytes}
 use Rattle.layout.specs.Records.{answerAt}
-use Rattle.engine.specs.declared.Answer.{Answer}
+use Rattle.rules.specs.declared.Answer.{Answer}
 use Rattle.format.specs.Header.{eventCount, wellFormed}
 use Rattle.engine.specs.Transcript.{Line, recordOf, recordWith}
 use Rattle.forms.specs.declared.Form.{Form}

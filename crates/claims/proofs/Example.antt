@@ -8,8 +8,8 @@ use Rattle.layout.specs.declared.AnswerRecord.{AnswerRecord}
 use Rattle.layout.specs.Fields.{signed}
 use Rattle.layout.specs.Records.{eventOf}
 use Rattle.text.specs.Line.{decimal, signedDecimal, lineOf}
-use Rattle.engine.specs.declared.Entry.{Entry}
-use Rattle.engine.specs.Rules.{fresh}
+use Rattle.rules.specs.declared.Entry.{Entry}
+use Rattle.rules.specs.Rules.{fresh}
 use Rattle.engine.specs.Transcript.{Line, transcript, recordOf}
 use Rattle.ledger.specs.Example.{exampleSheets, exampleEntries, exampleRows}
 use Rattle.ledger.proofs.Example.{example}

@@ -7,7 +7,7 @@ use mathlib.Core.Path.{_≡_}
 use lib.IntN.{ℤ, pos}
 use lib.ListN.{length, take, drop}
 use Rattle.layout.specs.Fields.{AreBytes}
-use Rattle.engine.specs.declared.Answer.{Answer}
+use Rattle.rules.specs.declared.Answer.{Answer}
 use Rattle.format.specs.Header.{eventCount, wellFormed}
 use Rattle.engine.specs.Transcript.{Line}
 use Rattle.forms.specs.declared.Form.{Form}

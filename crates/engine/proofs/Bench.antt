@@ -9,16 +9,18 @@ use Rattle.curve.specs.Limits.{airWithin}
 use Rattle.curve.specs.Curve.{reducedOf, slope2Of, slope1Of, cubicOf, moistOf, warmOf, wetOf, dryOf}
 use Rattle.curve.specs.Absolute.{absoluteOf}
 use Rattle.curve.proofs.Bench.{starred-readings}
+use Rattle.reference.specs.declared.Found.{Found}
 use Rattle.reference.specs.Signal.{signalOf, againstOf}
 use Rattle.reference.proofs.Bench.{starred-references}
-use Rattle.engine.specs.declared.State.{State}
+use Rattle.rules.specs.declared.State.{State}
 use Rattle.counting.specs.declared.Integration.{Integration}
-use Rattle.engine.specs.declared.Answer.{Answer}
-use Rattle.engine.specs.declared.Stepped.{Stepped}
-use Rattle.engine.specs.Sample.{sampledOf}
+use Rattle.rules.specs.declared.Answer.{Answer}
+use Rattle.rules.specs.declared.Stepped.{Stepped}
+use Rattle.rules.specs.Sample.{sampledOf}
 use Rattle.counting.specs.Integration.{emptyTally, countedOf, tallyArea}
 use Rattle.sampling.specs.Sample.{sampledOn}
-use Rattle.engine.specs.Rules.{answered, withIntegration, spanBy, areaAnswer, rules}
+use Rattle.sampling.specs.Span.{settingOf, spannedOn}
+use Rattle.rules.specs.Rules.{answered, withIntegration, spanBy, areaAnswer, rules}
 use Rattle.engine.specs.Bench.{benchState, referenceState, countedOnce, sample, start, area, Answers, after, StarredCases}
 
 -- 2X less nothing, where n − 1 is 0
@@ -54,8 +56,12 @@ three-state =
     ∙ ap (λ (x : Stepped). after (x .state) (sample (pos 0) ∷ [])) (high counted-1)
     ∙ ap (λ (x : Stepped). x .state) (low counted-2)
 
+-- a span on the bench sheet, by what was found
+abbrev spanned : Found → Stepped
+spanned f = spanBy benchState (settingOf f)
+
 pub starred-cases : StarredCases
-unfolding sampledOf sampledOn areaAnswer tallyArea airWithin absoluteOf signalOf againstOf nearest reducedOf slope2Of slope1Of cubicOf moistOf warmOf wetOf dryOf
+unfolding sampledOf sampledOn spannedOn areaAnswer tallyArea airWithin absoluteOf signalOf againstOf nearest reducedOf slope2Of slope1Of cubicOf moistOf warmOf wetOf dryOf
 starred-cases =
     record {
       readings = starred-readings;
@@ -75,10 +81,10 @@ starred-cases =
       raw-10000000 = high Integration.Idle;
       raw-minus = rw (starred-references .reference);
       k-10000000 = rw (starred-references .k-10000000);
-      span-800000 = ap (spanBy benchState) (starred-references .span-800000);
-      span-2000000 = ap (spanBy benchState) (starred-references .span-2000000);
+      span-800000 = ap spanned (starred-references .span-800000);
+      span-2000000 = ap spanned (starred-references .span-2000000);
       span-beyond = rw (starred-references .span-beyond);
-      span-500000 = ap (spanBy benchState) (starred-references .span-500000);
+      span-500000 = ap spanned (starred-references .span-500000);
       span-below = rw (starred-references .span-below);
       three-readings = subst (λ (st : State). Answers st area (Answer.Area 3 (pos 2776320000))) (sym three-state) refl;
       one-sample = refl;

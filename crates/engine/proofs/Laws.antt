@@ -8,12 +8,13 @@ use lib.Dec.{T, eqb}
 use Rattle.sheets.specs.declared.Lookup.{Lookup}
 use Rattle.sheets.specs.Sheets.{lookupRefusal, lookupOf}
 use Rattle.sheets.proofs.Numbers.{lookup-number}
-use Rattle.engine.specs.declared.State.{State}
-use Rattle.engine.specs.declared.Event.{Event}
-use Rattle.engine.specs.declared.Entry.{Entry}
-use Rattle.engine.specs.Answer.{refusalOf, accepted}
-use Rattle.engine.specs.Rules.{refused, loadBy, rules}
-use Rattle.engine.specs.Step.{workable, stepOf}
+use Rattle.rules.specs.declared.State.{State}
+use Rattle.rules.specs.declared.Event.{Event}
+use Rattle.rules.specs.declared.Entry.{Entry}
+use Rattle.rules.specs.Answer.{refusalOf, accepted}
+use Rattle.rules.specs.Rules.{refused, loadBy, rules}
+use Rattle.rules.specs.Limits.{workable}
+use Rattle.engine.specs.Step.{stepOf}
 use Rattle.engine.specs.Laws.{loadAt, isLoad, SeesLookup, LoadForgets}
 
 -- ---- the rules, or refusal 1

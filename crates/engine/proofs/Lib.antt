@@ -1,5 +1,3 @@
-pub mod Workable
-pub mod Inversion
 pub mod Cases
 pub mod Laws
 pub mod Bench

@@ -10,13 +10,13 @@ use Rattle.counting.specs.declared.Integration.{Integration}
 use Rattle.counting.specs.Integration.{emptyTally, countedOf}
 use Rattle.sampling.specs.declared.Mode.{Mode}
 use Rattle.sampling.specs.declared.Measurement.{Measurement}
-use Rattle.engine.specs.declared.Loaded.{Loaded}
-use Rattle.engine.specs.declared.State.{State}
-use Rattle.engine.specs.declared.Event.{Event}
-use Rattle.engine.specs.declared.Entry.{Entry}
-use Rattle.engine.specs.declared.Answer.{Answer}
-use Rattle.engine.specs.Answer.{refusalOf}
-use Rattle.engine.specs.Rules.{answered, withIntegration, idleWith, rules}
+use Rattle.rules.specs.declared.Loaded.{Loaded}
+use Rattle.rules.specs.declared.State.{State}
+use Rattle.rules.specs.declared.Event.{Event}
+use Rattle.rules.specs.declared.Entry.{Entry}
+use Rattle.rules.specs.declared.Answer.{Answer}
+use Rattle.rules.specs.Answer.{refusalOf}
+use Rattle.rules.specs.Rules.{answered, withIntegration, idleWith, rules}
 
 -- ---- states: Q 0, S 1,000,000 unless said, idle
 

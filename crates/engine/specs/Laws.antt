@@ -5,11 +5,12 @@ use mathlib.Core.Bool.{Bool, true, false}
 use mathlib.Core.List.{List}
 use mathlib.Core.Path.{_≡_}
 use Rattle.sheets.specs.Sheets.{lookupRefusal, lookupOf}
-use Rattle.engine.specs.declared.State.{State}
-use Rattle.engine.specs.declared.Event.{Event}
-use Rattle.engine.specs.declared.Entry.{Entry}
-use Rattle.engine.specs.Answer.{refusalOf, accepted}
-use Rattle.engine.specs.Step.{workable, stepOf}
+use Rattle.rules.specs.declared.State.{State}
+use Rattle.rules.specs.declared.Event.{Event}
+use Rattle.rules.specs.declared.Entry.{Entry}
+use Rattle.rules.specs.Answer.{refusalOf, accepted}
+use Rattle.rules.specs.Limits.{workable}
+use Rattle.engine.specs.Step.{stepOf}
 
 abbrev pub loadAt : ℕ → Entry
 loadAt index = Entry.Known (Event.Load index)

@@ -1,17 +1,17 @@
 // Whether a record is one that a list of events can leave, as far as the arithmetic needs it.
 ghost use mathlib.Core.Path.{_≡_};
-ghost use Rattle.engine.specs.Step.{loadedWithin};
-ghost use Rattle.engine.specs.Step.{workable as Step·workable};
-use crate::Loaded;
-use crate::State;
+ghost use Rattle.rules.specs.Limits.{loadedWithin};
+ghost use Rattle.rules.specs.Limits.{workable as Limits·workable};
 use counting::limits::integration_within;
 use curve::limits::sheet_within;
 use curve::limits::within;
 use rounding::signed::magnitude;
+use rules::Loaded;
+use rules::State;
 use sampling::mode_within;
 
 pub(crate) fn workable(st: State) -> bool
-    ensures { λ r. ⌜ r ≡ Step·workable st ⌝ }
+    ensures { λ r. ⌜ r ≡ Limits·workable st ⌝ }
 {
     let loaded = st.loaded;
     let mode = st.mode;

@@ -9,9 +9,9 @@ use lib.Dec.{eqb}
 use lib.IntN.{ℤ, pos, negsuc, natAbs}
 use Rattle.curve.proofs.Within.{both}
 use Rattle.layout.specs.declared.EventRecord.{EventRecord}
-use Rattle.engine.specs.declared.Event.{Event}
-use Rattle.engine.specs.declared.Event.the-variants.{Load, Zero, Span, Reference, Absolute, Sample, Start, Stop, Area}
-use Rattle.engine.specs.declared.Entry.{Entry}
+use Rattle.rules.specs.declared.Event.{Event}
+use Rattle.rules.specs.declared.Event.the-variants.{Load, Zero, Span, Reference, Absolute, Sample, Start, Stop, Area}
+use Rattle.rules.specs.declared.Entry.{Entry}
 use Rattle.entries.specs.Entries.{noRaw, noCylinder, noAir, noFields, measured, knownIf, byKind, entryOf, fields, recordOfEvent, EntryInverse}
 
 pub record-known : (e : Event) → entryOf (recordOfEvent e) ≡ Entry.Known e

@@ -7,9 +7,9 @@ use lib.Dec.{eqb}
 use lib.IntN.{ℤ, pos, natAbs}
 use Rattle.layout.specs.declared.EventRecord.{EventRecord}
 use Rattle.sampling.specs.declared.Measurement.{Measurement}
-use Rattle.engine.specs.declared.Event.{Event}
-use Rattle.engine.specs.declared.Event.the-variants.{Load, Zero, Span, Reference, Absolute, Sample, Start, Stop, Area}
-use Rattle.engine.specs.declared.Entry.{Entry}
+use Rattle.rules.specs.declared.Event.{Event}
+use Rattle.rules.specs.declared.Event.the-variants.{Load, Zero, Span, Reference, Absolute, Sample, Start, Stop, Area}
+use Rattle.rules.specs.declared.Entry.{Entry}
 
 -- fields that are zero
 abbrev pub noRaw : EventRecord → Bool

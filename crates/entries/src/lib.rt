@@ -3,9 +3,9 @@ ghost use mathlib.Core.Path.{_≡_};
 ghost use mathlib.Core.Bool.{_&&_};
 ghost use lib.Dec.{eqb};
 ghost use Rattle.entries.specs.Entries.{noRaw, noCylinder, noAir, noFields, measured as Entries·measured, knownIf, byKind, entryOf};
-use engine::Entry;
-use engine::Event;
 use layout::EventRecord;
+use rules::Entry;
+use rules::Event;
 use sampling::Measurement;
 
 // The entry of a record, whatever its bytes were.

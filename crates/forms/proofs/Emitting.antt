@@ -9,8 +9,8 @@ use Rattle.layout.specs.declared.AnswerRecord.{AnswerRecord}
 use Rattle.layout.specs.declared.EventRecord.{EventRecord}
 use Rattle.layout.specs.Records.{answerBytes}
 use Rattle.text.specs.Line.{lineOf}
-use Rattle.engine.specs.declared.State.{State}
-use Rattle.engine.specs.declared.Stepped.{Stepped}
+use Rattle.rules.specs.declared.State.{State}
+use Rattle.rules.specs.declared.Stepped.{Stepped}
 use Rattle.engine.specs.Transcript.{Line, lineAt, recordOf, recordWith}
 use Rattle.entries.specs.Entries.{entryOf}
 use Rattle.forms.specs.declared.Form.{Form}

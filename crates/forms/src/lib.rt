@@ -4,16 +4,16 @@ ghost use mathlib.Core.Path.{_≡_};
 ghost use Prim.Native.Nat.{_+_, _≤_, _<_};
 ghost use lib.ListN.{length};
 ghost use Rattle.layout.specs.Lent.{Puts};
-ghost use Rattle.engine.specs.Answer.{mOf};
+ghost use Rattle.rules.specs.Answer.{mOf};
 ghost use Rattle.engine.specs.Transcript.{lineAt, recordWith};
 ghost use Rattle.entries.specs.Entries.{entryOf};
 ghost use Rattle.forms.specs.Forms.{emitted, roomOf};
-use engine::Answer;
-use engine::State;
-use engine::Stepped;
 use layout::AnswerRecord;
 use layout::EventRecord;
 use layout::records::put_answer;
+use rules::Answer;
+use rules::State;
+use rules::Stepped;
 use text::put_line;
 
 // The answers of a file as records of 24 bytes, or as printed lines.

@@ -7,9 +7,9 @@ use mathlib.Core.Path.{refl}
 use Prim.Native.Nat.{ℕ}
 use native.Mathlib.Omega.{arith}
 use lib.IntN.{ℤ}
-use Rattle.engine.specs.declared.State.{State}
-use Rattle.engine.specs.declared.Entry.{Entry}
-use Rattle.engine.specs.Rules.{rules, fresh}
+use Rattle.rules.specs.declared.State.{State}
+use Rattle.rules.specs.declared.Entry.{Entry}
+use Rattle.rules.specs.Rules.{rules, fresh}
 use Rattle.engine.specs.Transcript.{transcript, leaves}
 use Rattle.engine.proofs.Laws.{by-rules}
 use Rattle.ledger.specs.Ledger.{Ledger, freshLedger}

@@ -5,11 +5,12 @@ use Rattle.curve.specs.Limits.{sheetWithin}
 use Rattle.curve.specs.Bench.{benchSheet}
 use Rattle.layout.specs.Fields.{signed}
 use Rattle.layout.specs.Records.{sheetOf}
-use Rattle.engine.specs.declared.Answer.{Answer}
+use Rattle.rules.specs.declared.Answer.{Answer}
 use Rattle.sheets.specs.declared.Lookup.{Lookup}
 use Rattle.sheets.specs.Sheets.{lookupOf}
-use Rattle.engine.specs.Rules.{fresh, answered, refused}
-use Rattle.engine.specs.Step.{workable, stepOf}
+use Rattle.rules.specs.Rules.{fresh, answered, refused}
+use Rattle.rules.specs.Limits.{workable}
+use Rattle.engine.specs.Step.{stepOf}
 use Rattle.engine.specs.Bench.{benchState, referenceState}
 use Rattle.engine.proofs.Bench.{starred-cases}
 use Rattle.ledger.specs.Example.{exampleSheets, exampleLoad, exampleReference, exampleSample, exampleArea, Example}

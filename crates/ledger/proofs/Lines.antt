@@ -13,19 +13,19 @@ use Rattle.curve.proofs.Within.{range}
 use Rattle.exact.specs.Fraction.{Fraction}
 use Rattle.exact.specs.Area.{EachWithin, areaOf}
 use Rattle.exact.proofs.Area.{same-length, area-distance}
-use Rattle.engine.specs.declared.Loaded.{Loaded}
+use Rattle.rules.specs.declared.Loaded.{Loaded}
 use Rattle.sampling.specs.declared.Mode.{Mode}
 use Rattle.counting.specs.declared.Tally.{Tally}
-use Rattle.engine.specs.declared.State.{State}
-use Rattle.engine.specs.declared.Event.{Event}
-use Rattle.engine.specs.declared.Entry.{Entry}
-use Rattle.engine.specs.declared.Answer.{Answer}
-use Rattle.engine.specs.declared.Stepped.{Stepped}
+use Rattle.rules.specs.declared.State.{State}
+use Rattle.rules.specs.declared.Event.{Event}
+use Rattle.rules.specs.declared.Entry.{Entry}
+use Rattle.rules.specs.declared.Answer.{Answer}
+use Rattle.rules.specs.declared.Stepped.{Stepped}
 use Rattle.counting.specs.Integration.{tallyArea}
 use Rattle.sampling.specs.Sample.{modeWithin}
-use Rattle.engine.specs.Rules.{answered, refused, rules}
-use Rattle.engine.specs.Step.{loadedWithin, workable}
-use Rattle.engine.proofs.Inversion.{wet-in}
+use Rattle.rules.specs.Rules.{answered, refused, rules}
+use Rattle.rules.specs.Limits.{loadedWithin, workable}
+use Rattle.rules.proofs.Inversion.{wet-in}
 use Rattle.engine.proofs.Cases.{closing, Ruled, refuses, malformed, loads, zeroes, spans, refers, absolute, samples, closes, starts, stops, totals, ruled}
 use Rattle.ledger.specs.Ledger.{Ledger, withSeries, taken, exactValue, refusedBy, ledgerStep}
 use Rattle.ledger.specs.Wets.{wetsStep}

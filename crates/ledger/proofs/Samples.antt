@@ -23,12 +23,12 @@ use Rattle.sampling.specs.declared.Measurement.{Measurement}
 use Rattle.sampling.specs.Sample.{airOf, referenceAir, searchedOf}
 use Rattle.sampling.proofs.Within.{input-ok, reference-air-ok}
 use Rattle.sampling.proofs.Inversion.{AcceptedOn}
-use Rattle.engine.specs.declared.Loaded.{Loaded}
-use Rattle.engine.specs.declared.State.{State}
-use Rattle.engine.specs.Sample.{searchedUnder, findingOf}
-use Rattle.engine.specs.Step.{loadedWithin}
-use Rattle.engine.proofs.Workable.{sheet-in}
-use Rattle.engine.proofs.Inversion.{AcceptedIn}
+use Rattle.rules.specs.declared.Loaded.{Loaded}
+use Rattle.rules.specs.declared.State.{State}
+use Rattle.rules.specs.Sample.{searchedUnder, findingOf}
+use Rattle.rules.specs.Limits.{loadedWithin}
+use Rattle.rules.proofs.Workable.{sheet-in}
+use Rattle.rules.proofs.Inversion.{AcceptedIn}
 use Rattle.ledger.specs.Ledger.{Ledger, exactValue}
 use Rattle.ledger.specs.Claim.{AtSignal, SampleHolds}
 

@@ -11,18 +11,19 @@ use Rattle.exact.specs.Fraction.{whole, LiesWithin, AtLeast, LessThan}
 use Rattle.exact.specs.Equation.{exactWet, exactDry}
 use Rattle.exact.specs.Area.{areaOf, exactArea}
 use Rattle.exact.specs.Bounds.{absoluteBound, againstBound, dryBound, referenceBound, areaBound}
-use Rattle.engine.specs.declared.Loaded.{Loaded}
+use Rattle.rules.specs.declared.Loaded.{Loaded}
 use Rattle.sampling.specs.declared.Cylinder.{Cylinder}
 use Rattle.sampling.specs.declared.Mode.{Mode}
-use Rattle.engine.specs.declared.State.{State}
+use Rattle.rules.specs.declared.State.{State}
 use Rattle.sampling.specs.declared.Measurement.{Measurement}
-use Rattle.engine.specs.declared.Event.{Event}
-use Rattle.engine.specs.declared.Entry.{Entry}
-use Rattle.engine.specs.declared.Answer.{Answer}
-use Rattle.engine.specs.Answer.{refusalOf, mOf, xOf, yOf}
+use Rattle.rules.specs.declared.Event.{Event}
+use Rattle.rules.specs.declared.Entry.{Entry}
+use Rattle.rules.specs.declared.Answer.{Answer}
+use Rattle.rules.specs.Answer.{refusalOf, mOf, xOf, yOf}
 use Rattle.sampling.specs.Sample.{airOf, referenceAir}
-use Rattle.engine.specs.Rules.{rules, fresh, answered}
-use Rattle.engine.specs.Step.{workable, stepOf}
+use Rattle.rules.specs.Rules.{rules, fresh, answered}
+use Rattle.rules.specs.Limits.{workable}
+use Rattle.engine.specs.Step.{stepOf}
 use Rattle.engine.specs.Transcript.{Line, transcript, leaves}
 use Rattle.ledger.specs.Ledger.{Ledger, freshLedger, exactValue, ledgerStep}
 use Rattle.ledger.specs.Wets.{wetsStep}

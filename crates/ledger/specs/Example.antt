@@ -6,11 +6,11 @@ use mathlib.Core.Path.{_≡_}
 use lib.IntN.{pos}
 use Rattle.curve.specs.Bench.{benchSheet}
 use Rattle.layout.specs.declared.AnswerRecord.{AnswerRecord}
-use Rattle.engine.specs.declared.Event.{Event}
-use Rattle.engine.specs.declared.Entry.{Entry}
+use Rattle.rules.specs.declared.Event.{Event}
+use Rattle.rules.specs.declared.Entry.{Entry}
 use Rattle.sheets.specs.declared.Lookup.{Lookup}
 use Rattle.sheets.specs.Sheets.{lookupOf}
-use Rattle.engine.specs.Rules.{fresh}
+use Rattle.rules.specs.Rules.{fresh}
 use Rattle.engine.specs.Transcript.{transcript, recordOf}
 
 -- four bytes, the lowest first

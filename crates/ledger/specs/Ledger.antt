@@ -11,13 +11,13 @@ use Rattle.exact.specs.Fraction.{Fraction, whole}
 use Rattle.exact.specs.Equation.{exactWet}
 use Rattle.exact.specs.Signal.{exactSignal, exactAgainst}
 use Rattle.layout.specs.Records.{sheetAt}
-use Rattle.engine.specs.declared.Loaded.{Loaded}
+use Rattle.rules.specs.declared.Loaded.{Loaded}
 use Rattle.sampling.specs.declared.Mode.{Mode}
 use Rattle.sampling.specs.declared.Measurement.{Measurement}
-use Rattle.engine.specs.declared.Event.{Event}
-use Rattle.engine.specs.declared.Entry.{Entry}
-use Rattle.engine.specs.declared.Answer.{Answer}
-use Rattle.engine.specs.Answer.{mOf, accepted, kindOf}
+use Rattle.rules.specs.declared.Event.{Event}
+use Rattle.rules.specs.declared.Entry.{Entry}
+use Rattle.rules.specs.declared.Answer.{Answer}
+use Rattle.rules.specs.Answer.{mOf, accepted, kindOf}
 use Rattle.sheets.specs.Sheets.{asSheet}
 use Rattle.sampling.specs.Sample.{airOf}
 

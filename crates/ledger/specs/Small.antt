@@ -2,8 +2,8 @@
 -- nothing.
 use Prim.Native.Nat.{_^_, _<_}
 use lib.IntN.{natAbs}
-use Rattle.engine.specs.declared.Answer.{Answer}
-use Rattle.engine.specs.Answer.{mOf, xOf, yOf}
+use Rattle.rules.specs.declared.Answer.{Answer}
+use Rattle.rules.specs.Answer.{mOf, xOf, yOf}
 
 -- an answer's m fits the record's u32, and its x and y are whole numbers that a double holds
 pub record Small (a : Answer) : Type 0 where

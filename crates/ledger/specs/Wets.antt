@@ -3,10 +3,10 @@
 use mathlib.Core.Bool.{Bool, cond}
 use mathlib.Core.List.{List, [], _∷_, _++_}
 use lib.IntN.{ℤ}
-use Rattle.engine.specs.declared.Event.{Event}
-use Rattle.engine.specs.declared.Entry.{Entry}
-use Rattle.engine.specs.declared.Answer.{Answer}
-use Rattle.engine.specs.Answer.{xOf, accepted}
+use Rattle.rules.specs.declared.Event.{Event}
+use Rattle.rules.specs.declared.Entry.{Entry}
+use Rattle.rules.specs.declared.Answer.{Answer}
+use Rattle.rules.specs.Answer.{xOf, accepted}
 
 -- accepted: a sample's wet value, x of its answer, is taken at the end if the series runs; kinds 1 to 5 and a start empty the list
 abbrev pub wetsBy : Bool → List ℤ → Entry → Answer → List ℤ

@@ -1,3 +1,4 @@
 pub mod Within
 pub mod Sizes
 pub mod Inversion
+pub mod Span

@@ -1,4 +1,5 @@
-// A sample under a sheet, a zero, a span and a mode: check 6, the reference signal, and the reading.
+// A sample under a sheet, a zero, a span and a mode: check 6, the reference signal, and the reading. And the span setting under
+// a sheet and a zero.
 ghost use mathlib.Core.Path.{_≡_};
 ghost use mathlib.Core.Bool.{true, _&&_};
 ghost use Prim.Native.Nat.{_≤_};
@@ -7,16 +8,19 @@ ghost use Rattle.curve.specs.Limits.{SheetOk, AirOk};
 ghost use Rattle.curve.specs.Absolute.{absoluteOf};
 ghost use Rattle.reference.specs.Search.{foundValue};
 ghost use Rattle.sampling.specs.Sample.{airOf, modeWithin, inputWithin, vapourWithin, searchedOf, valuesOf, readOf, sampledOn};
+ghost use Rattle.sampling.specs.Span.{settingOf, spannedOn};
 use curve::Air;
 use curve::Reading;
 use curve::Sheet;
 use curve::limits::air_within;
+use curve::limits::within;
 use curve::reading_refusal;
 use curve::steps::dry;
 use reference::Found;
 use reference::reference_signal;
 use reference::signal::against;
 use reference::signal::from_raw;
+use reference::span_setting;
 use rounding::widths::size;
 use rounding::widths::wide;
 
@@ -42,6 +46,12 @@ pub struct Measurement {
 // What a sample gives: its values, or the refusal.
 pub enum Sampled {
     Value { r: u64, wet: i64, dry: i64 },
+    Refused(u8),
+}
+
+// What a span setting gives: the span, or the refusal.
+pub enum Spanned {
+    Value(u64),
     Refused(u8),
 }
 
@@ -77,7 +87,7 @@ fn inputs_within(mode: Mode, at: Measurement) -> bool
 }
 
 // Check 6 of a span and a sample: raw, P, T and e.
-pub fn input_within(at: Measurement) -> bool
+fn input_within(at: Measurement) -> bool
     ensures { λ r. ⌜ r ≡ inputWithin at ⌝ }
 {
     if 150000000 < size(at.raw) {
@@ -96,7 +106,7 @@ fn vapour_within(mode: Mode, a: Air) -> bool
     }
 }
 
-pub fn air_of(at: Measurement) -> Air
+fn air_of(at: Measurement) -> Air
     ensures { λ r. ⌜ r ≡ airOf at ⌝ }
 {
     Air {
@@ -154,5 +164,28 @@ fn values(r: u64, s: Sheet, v: i64, a: Air) -> Sampled
         r,
         wet: c,
         dry: dry(c, a),
+    }
+}
+
+// The span that reads a cylinder, under a sheet and a zero. Only inputs and cylinders that pass checks 6 and 4 are searched for.
+pub fn span_on(s: Sheet, q: i64, at: Measurement, cylinder: u32) -> Spanned
+    requires { ⌜ SheetOk s × (natAbs q ≤ 20000000) ⌝ }
+    ensures { λ r. ⌜ r ≡ spannedOn s q at cylinder ⌝ }
+{
+    if !input_within(at) {
+        return Spanned::Refused(6);
+    }
+    if !within(1, 3000000000, cylinder as u64) {
+        return Spanned::Refused(4);
+    }
+    setting(span_setting(s, wide(at.raw), q, cylinder as u64, air_of(at)))
+}
+
+fn setting(finding: Found) -> Spanned
+    ensures { λ r. ⌜ r ≡ settingOf finding ⌝ }
+{
+    match finding {
+        Found::At(s) => Spanned::Value(s),
+        Found::Nothing => Spanned::Refused(5),
     }
 }

@@ -10,7 +10,7 @@ use lib.Dec.{leb}
 use lib.IntN.{natAbs}
 use Rattle.curve.specs.Limits.{within}
 use Rattle.sampling.specs.Sample.{modeWithin}
-use Rattle.engine.specs.Step.{loadedWithin, workable}
+use Rattle.rules.specs.Limits.{loadedWithin, workable}
 use Rattle.engine.proofs.limits.workable.Statement.{statement}
 use Rattle.engine.proofs.limits.workable.Tie as tie
 

@@ -1,0 +1,2 @@
+pub mod Workable
+pub mod Inversion

@@ -1,0 +1,4 @@
+pub mod Answer
+pub mod Sample
+pub mod Rules
+pub mod Limits

@@ -14,7 +14,7 @@ use Rattle.layout.specs.Fields.{AreBytes}
 use Rattle.layout.specs.Records.{answerAt}
 use Rattle.rules.specs.declared.Answer.{Answer}
 use Rattle.format.specs.Header.{eventCount, wellFormed}
-use Rattle.engine.specs.Transcript.{Line, recordOf, recordWith}
+use Rattle.engine.specs.Transcript.{Line, recordOfLine, recordWith}
 use Rattle.forms.specs.declared.Form.{Form}
 use Rattle.session.specs.Run.{FillsAs}
 use Rattle.ledger.proofs.Fits.{Fit}
@@ -66,14 +66,14 @@ module _ (file old : List ℕ) (are : AreBytes file) (w : wellFormed file ≡ tr
       rw (length-take, length-drop, length-output file old w h f)
       (omega (arith, line-below file i l is))
 
-  stands : answerAt lent 0 ≡ recordOf l
+  stands : answerAt lent 0 ≡ recordOfLine l
   stands = rw (take-take 24 n (drop (24 * i) out) k) (line-read file old w h f i l is are)
 
-  sample-in : hostSampleIn lent ≡ hostSample (recordOf l)
+  sample-in : hostSampleIn lent ≡ hostSample (recordOfLine l)
   unfolding hostSampleIn
   sample-in = rw (le-leb 24 _ long) (ap hostSample stands)
 
-  area-in : hostAreaIn lent ≡ hostArea (recordOf l)
+  area-in : hostAreaIn lent ≡ hostArea (recordOfLine l)
   unfolding hostAreaIn
   area-in = rw (le-leb 24 _ long) (ap hostArea stands)
 

@@ -10,7 +10,7 @@ use Rattle.layout.specs.Records.{eventOf}
 use Rattle.text.specs.Line.{decimal, signedDecimal, lineOf}
 use Rattle.rules.specs.declared.Entry.{Entry}
 use Rattle.rules.specs.Rules.{fresh}
-use Rattle.engine.specs.Transcript.{Line, transcript, recordOf}
+use Rattle.engine.specs.Transcript.{Line, transcript, recordOfLine}
 use Rattle.ledger.specs.Example.{exampleSheets, exampleEntries, exampleRows}
 use Rattle.ledger.proofs.Example.{example}
 use Rattle.format.specs.Header.{wellFormed}
@@ -29,18 +29,18 @@ entries : entriesOf exampleFile ≡ exampleEntries
 unfolding signed eventOf entryOf
 entries = refl
 
-records : map recordOf (transcriptOf exampleFile) ≡ exampleRows
-records = ap (λ (es : List Entry). map recordOf (transcript exampleSheets fresh es)) entries ∙ example .rows
+records : map recordOfLine (transcriptOf exampleFile) ≡ exampleRows
+records = ap (λ (es : List Entry). map recordOfLine (transcript exampleSheets fresh es)) entries ∙ example .rows
 
 -- the lines go by the records alone
 linesFrom : ℕ → List AnswerRecord → List ℕ
 linesFrom ordinal [] = []
 linesFrom ordinal (a ∷ rest) = lineOf ordinal a ++ linesFrom (ordinal + 1) rest
 
-by-records : (ordinal : ℕ) (ls : List Line) → emittedFrom Form.Lines ordinal ls ≡ linesFrom ordinal (map recordOf ls)
+by-records : (ordinal : ℕ) (ls : List Line) → emittedFrom Form.Lines ordinal ls ≡ linesFrom ordinal (map recordOfLine ls)
 unfolding linesFrom
 by-records ordinal [] = refl
-by-records ordinal (l ∷ ls) = ap (λ (rest : List ℕ). lineOf ordinal (recordOf l) ++ rest) (by-records (ordinal + 1) ls)
+by-records ordinal (l ∷ ls) = ap (λ (rest : List ℕ). lineOf ordinal (recordOfLine l) ++ rest) (by-records (ordinal + 1) ls)
 
 lines : linesFrom 1 exampleRows ≡ exampleText
 unfolding linesFrom decimal signedDecimal lineOf

@@ -1,5 +1,5 @@
--- Two laws of a step that every change of the rules keeps, for the joining of two session files: what a step sees of the list of sheets, and
--- that an accepted load leaves nothing of the state before it. Assumes nothing.
+-- Two laws of a step: what it sees of the list of sheets, and that an accepted load leaves nothing of the state before it. Assumes
+-- nothing.
 use Prim.Native.Nat.{ℕ}
 use mathlib.Core.Bool.{Bool, true, false}
 use mathlib.Core.List.{List}
@@ -33,8 +33,8 @@ pub record SeesLookup (a b : List ℕ) (st : State) : Type 0 where
   pub load : (i j : ℕ) → lookupOf a i ≡ lookupOf b j → stepOf a st (loadAt i) ≡ stepOf b st (loadAt j)
   pub other : (entry : Entry) → isLoad entry ≡ false → stepOf a st entry ≡ stepOf b st entry
 
--- of a load: its refusal is that of the lookup, whatever the state; and where it is accepted at one state, every other state gives the same
--- answer and the same state after it
+-- of a load: its refusal is that of the lookup, at every state that the code works with; and where it is accepted at one state, every such
+-- state gives the same answer and the same state after it
 pub record LoadForgets (sheets : List ℕ) (index : ℕ) : Type 0 where
   pub refusal : (st : State) → workable st ≡ true → refusalOf (stepOf sheets st (loadAt index) .answer) ≡ lookupRefusal (lookupOf sheets index)
   pub forgets : (st other : State) → accepted (stepOf sheets st (loadAt index) .answer) ≡ true → workable other ≡ true

@@ -12,7 +12,7 @@ use Rattle.layout.specs.declared.EventRecord.{EventRecord}
 use Rattle.rules.specs.declared.Event.{Event}
 use Rattle.rules.specs.declared.Event.the-variants.{Load, Zero, Span, Reference, Absolute, Sample, Start, Stop, Area}
 use Rattle.rules.specs.declared.Entry.{Entry}
-use Rattle.entries.specs.Entries.{noRaw, noCylinder, noAir, noFields, measured, knownIf, byKind, entryOf, fields, recordOfEvent, EntryInverse}
+use Rattle.entries.specs.Entries.{noRaw, noCylinder, noAir, noFields, measured, knownIf, byKind, entryOf, eventWith, recordOfEvent, EntryInverse}
 
 pub record-known : (e : Event) → entryOf (recordOfEvent e) ≡ Entry.Known e
 unfolding entryOf
@@ -41,10 +41,10 @@ module _ (r : EventRecord) where
       (eqb-true _ _ (b .0), eqb-true _ _ (b .1), eqb-true _ _ (a .1))
 
   module _ (z : r .pad ≡ 0) {n : ℕ} (k : r .kind ≡ n) where
-    same : {raw : ℤ} {c p t e : ℕ} → r .raw ≡ raw → r .cylinder ≡ c → r .p ≡ p → r .t ≡ t → r .e ≡ e → r ≡ fields n raw c p t e
+    same : {raw : ℤ} {c p t e : ℕ} → r .raw ≡ raw → r .cylinder ≡ c → r .p ≡ p → r .t ≡ t → r .e ≡ e → r ≡ eventWith n raw c p t e
     same hr hc hp ht he = λ i. record { kind = k i; pad = z i; raw = hr i; cylinder = hc i; p = hp i; t = ht i; e = he i }
 
-    bare : noFields r ≡ true → r ≡ fields n (pos 0) 0 0 0 0
+    bare : noFields r ≡ true → r ≡ eventWith n (pos 0) 0 0 0 0
     bare h =
         let a = both (noRaw r && noCylinder r) (noAir r) h in
         let b = both (noRaw r) (noCylinder r) (a .0) in

@@ -50,20 +50,20 @@ unfoldable pub entryOf : EventRecord → Entry
 entryOf r = cond (eqb (r .pad) 0) (byKind r) (Entry.Malformed (r .kind))
 
 -- and back: kind, three zero bytes, raw, C, P, T, e
-abbrev pub fields : ℕ → ℤ → ℕ → ℕ → ℕ → ℕ → EventRecord
-fields kind raw cylinder p t e = record { kind = kind; pad = 0; raw = raw; cylinder = cylinder; p = p; t = t; e = e }
+abbrev pub eventWith : ℕ → ℤ → ℕ → ℕ → ℕ → ℕ → EventRecord
+eventWith kind raw cylinder p t e = record { kind = kind; pad = 0; raw = raw; cylinder = cylinder; p = p; t = t; e = e }
 
 -- the record of an event, with zero where its kind has no field
 abbrev pub recordOfEvent : Event → EventRecord
-recordOfEvent (Load index) = fields 1 (pos 0) index 0 0 0
-recordOfEvent (Zero raw) = fields 2 raw 0 0 0 0
-recordOfEvent (Span at cylinder) = fields 3 (at .raw) cylinder (at .p) (at .t) (at .e)
-recordOfEvent (Reference cylinder e) = fields 4 (pos 0) cylinder 0 0 e
-recordOfEvent Absolute = fields 5 (pos 0) 0 0 0 0
-recordOfEvent (Sample at) = fields 6 (at .raw) 0 (at .p) (at .t) (at .e)
-recordOfEvent Start = fields 7 (pos 0) 0 0 0 0
-recordOfEvent Stop = fields 8 (pos 0) 0 0 0 0
-recordOfEvent Area = fields 9 (pos 0) 0 0 0 0
+recordOfEvent (Load index) = eventWith 1 (pos 0) index 0 0 0
+recordOfEvent (Zero raw) = eventWith 2 raw 0 0 0 0
+recordOfEvent (Span at cylinder) = eventWith 3 (at .raw) cylinder (at .p) (at .t) (at .e)
+recordOfEvent (Reference cylinder e) = eventWith 4 (pos 0) cylinder 0 0 e
+recordOfEvent Absolute = eventWith 5 (pos 0) 0 0 0 0
+recordOfEvent (Sample at) = eventWith 6 (at .raw) 0 (at .p) (at .t) (at .e)
+recordOfEvent Start = eventWith 7 (pos 0) 0 0 0 0
+recordOfEvent Stop = eventWith 8 (pos 0) 0 0 0 0
+recordOfEvent Area = eventWith 9 (pos 0) 0 0 0 0
 
 -- the two are inverse: an event's record is read as the event, and no other record is
 pub record EntryInverse : Type 0 where

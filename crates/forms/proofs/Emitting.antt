@@ -11,14 +11,14 @@ use Rattle.layout.specs.Records.{answerBytes}
 use Rattle.text.specs.Line.{lineOf}
 use Rattle.rules.specs.declared.State.{State}
 use Rattle.rules.specs.declared.Stepped.{Stepped}
-use Rattle.engine.specs.Transcript.{Line, lineAt, recordOf, recordWith}
+use Rattle.engine.specs.Transcript.{Line, lineAt, recordOfLine, recordWith}
 use Rattle.entries.specs.Entries.{entryOf}
 use Rattle.forms.specs.declared.Form.{Form}
 use Rattle.forms.specs.Forms.{emitted, roomOf, roomFrom}
 use Rattle.forms.proofs.KindByte.{kind-kept}
 
 module _ (st : State) (event : EventRecord) (next : Stepped) {a : AnswerRecord} (e : a ≡ recordWith (event .kind) (next .answer)) where
-  record-is : recordOf (lineAt st (entryOf event) next) ≡ a
+  record-is : recordOfLine (lineAt st (entryOf event) next) ≡ a
   record-is = rw (e, kind-kept event)
 
   pub records-are : {form : Form} (ordinal : ℕ) → form ≡ Form.Records → emitted form ordinal (lineAt st (entryOf event) next) ≡ answerBytes a

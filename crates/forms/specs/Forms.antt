@@ -4,13 +4,13 @@ use Prim.Native.Nat.{ℕ, _+_}
 use mathlib.Core.List.{List, [], _∷_, _++_}
 use Rattle.layout.specs.Records.{answerBytes}
 use Rattle.text.specs.Line.{lineOf, lineRoom}
-use Rattle.engine.specs.Transcript.{Line, recordOf}
+use Rattle.engine.specs.Transcript.{Line, recordOfLine}
 use Rattle.forms.specs.declared.Form.{Form}
 
 -- what is put of one event
 abbrev pub emitted : Form → ℕ → Line → List ℕ
-emitted Form.Records ordinal l = answerBytes (recordOf l)
-emitted Form.Lines ordinal l = lineOf ordinal (recordOf l)
+emitted Form.Records ordinal l = answerBytes (recordOfLine l)
+emitted Form.Lines ordinal l = lineOf ordinal (recordOfLine l)
 
 -- the room that holds it
 abbrev pub roomOf : Form → ℕ

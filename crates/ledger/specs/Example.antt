@@ -11,7 +11,7 @@ use Rattle.rules.specs.declared.Entry.{Entry}
 use Rattle.sheets.specs.declared.Lookup.{Lookup}
 use Rattle.sheets.specs.Sheets.{lookupOf}
 use Rattle.rules.specs.Rules.{fresh}
-use Rattle.engine.specs.Transcript.{transcript, recordOf}
+use Rattle.engine.specs.Transcript.{transcript, recordOfLine}
 
 -- four bytes, the lowest first
 abbrev pub word : ℕ → ℕ → ℕ → ℕ → List ℕ
@@ -49,7 +49,7 @@ exampleArea = Entry.Known Event.Area
 abbrev pub exampleEntries : List Entry
 exampleEntries = exampleLoad ∷ exampleReference ∷ exampleSample ∷ exampleArea ∷ []
 
--- what is printed of an event after its ordinal, its place in the list: kind, refusal, m, x, y
+-- a row in numbers, as it is printed after its ordinal: kind, refusal, m, x, y
 abbrev pub row : ℕ → ℕ → ℕ → ℕ → ℕ → AnswerRecord
 row kind refusal m x y = record { kind = kind; refusal = refusal; m = m; x = pos x; y = pos y }
 
@@ -67,4 +67,4 @@ pub record Example : Type 0 where
   -- the bytes say the sheet of the bench
   pub sheet : lookupOf exampleSheets 0 ≡ Lookup.Found benchSheet
   -- the answers are as printed
-  pub rows : map recordOf (transcript exampleSheets fresh exampleEntries) ≡ exampleRows
+  pub rows : map recordOfLine (transcript exampleSheets fresh exampleEntries) ≡ exampleRows

@@ -1,6 +1,6 @@
--- What an accepted sample tells, and what a refused one does: the one place that takes a sample's definition apart. Assumes
+-- What an accepted sample tells, and what a refused one does: the laws by which proofs about samples take the definition apart. Assumes
 -- nothing.
-use mathlib.Core.Bool.{Bool, true, false, _&&_, cond}
+use mathlib.Core.Bool.{Bool, true, false, cond}
 use mathlib.Core.Path.{_≡_, refl, subst}
 use Prim.Native.Nat.{ℕ, _≤_}
 use native.Mathlib.Omega.{arith}
@@ -8,22 +8,13 @@ use lib.IntN.{ℤ}
 use Rattle.curve.specs.declared.Sheet.{Sheet}
 use Rattle.curve.specs.declared.Reading.{Reading}
 use Rattle.curve.specs.Curve.{dryOf}
-use Rattle.curve.specs.Absolute.{absoluteOf}
 use Rattle.curve.proofs.Within.{both}
 use Rattle.reference.specs.declared.Found.{Found}
 use Rattle.reference.specs.Signal.{signalOf}
 use Rattle.sampling.specs.declared.Mode.{Mode}
 use Rattle.sampling.specs.declared.Measurement.{Measurement}
 use Rattle.sampling.specs.declared.Sampled.{Sampled}
-use Rattle.sampling.specs.Sample.{airOf, inputWithin, vapourWithin, findingRefusal, answeredSignal, signalRead, valuesOf, readOf, sampledOn}
-
--- the reading of a sample
-abbrev pub readingOn : Sheet → ℤ → ℕ → Mode → Measurement → Found → Reading
-readingOn s q span mode at f = absoluteOf s (signalRead s mode f (signalOf (at .raw) q span)) (airOf at)
-
--- both parts of check 6
-abbrev pub checkedOn : Mode → Measurement → Bool
-checkedOn mode at = inputWithin at && vapourWithin mode (airOf at)
+use Rattle.sampling.specs.Sample.{airOf, inputWithin, vapourWithin, checkedOn, findingRefusal, answeredSignal, readingOn, valuesOf, readOf, sampledOn}
 
 -- an accepted sample: every check is passed, and R, the wet and the dry value are those of the finding and the reading
 pub record AcceptedOn (s : Sheet) (q : ℤ) (span : ℕ) (mode : Mode) (at : Measurement) (f : Found) (r : ℕ) (wet dry : ℤ) : Type 0 where

@@ -1,13 +1,13 @@
 // A sample under a sheet, a zero, a span and a mode: check 6, the reference signal, and the reading. And the span setting under
 // a sheet and a zero.
 ghost use mathlib.Core.Path.{_≡_};
-ghost use mathlib.Core.Bool.{true, _&&_};
+ghost use mathlib.Core.Bool.{true};
 ghost use Prim.Native.Nat.{_≤_};
 ghost use lib.IntN.{natAbs};
 ghost use Rattle.curve.specs.Limits.{SheetOk, AirOk};
 ghost use Rattle.curve.specs.Absolute.{absoluteOf};
 ghost use Rattle.reference.specs.Search.{foundValue};
-ghost use Rattle.sampling.specs.Sample.{airOf, modeWithin, inputWithin, vapourWithin, searchedOf, valuesOf, readOf, sampledOn};
+ghost use Rattle.sampling.specs.Sample.{airOf, modeWithin, inputWithin, vapourWithin, checkedOn, searchedOf, valuesOf, readOf, sampledOn};
 ghost use Rattle.sampling.specs.Span.{settingOf, spannedOn};
 use curve::Air;
 use curve::Reading;
@@ -65,7 +65,7 @@ pub fn mode_within(mode: Mode) -> bool
     }
 }
 
-// The values of a sample under a sheet, zero, span and mode. Only inputs that pass check 6 are searched for.
+// The values of a sample under a sheet, zero, span and mode. The reference is searched for only where check 6 is passed.
 pub fn sample_on(s: Sheet, q: i64, span: u64, mode: Mode, at: Measurement) -> Sampled
     requires { ⌜ SheetOk s × (natAbs q ≤ 20000000) × (span ≤ 2000000) × (modeWithin mode ≡ true) ⌝ }
     ensures { λ r. ⌜ r ≡ sampledOn s q span mode at (searchedOf s mode (airOf at)) ⌝ }
@@ -81,7 +81,7 @@ pub fn sample_on(s: Sheet, q: i64, span: u64, mode: Mode, at: Measurement) -> Sa
 // Check 6 of a sample: raw, P, T and e, and the reference's vapour pressure.
 fn inputs_within(mode: Mode, at: Measurement) -> bool
     requires { ⌜ modeWithin mode ≡ true ⌝ }
-    ensures { λ r. ⌜ r ≡ (inputWithin at && vapourWithin mode (airOf at)) ⌝ }
+    ensures { λ r. ⌜ r ≡ checkedOn mode at ⌝ }
 {
     input_within(at) && vapour_within(mode, air_of(at))
 }

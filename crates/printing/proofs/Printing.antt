@@ -8,17 +8,13 @@ use borrow.Author.Tests.{le-leb, lt-leb}
 use lib.ListN.{length}
 use Rattle.layout.specs.Lent.{Puts}
 use Rattle.layout.proofs.Lent.{fills-puts, fills-kept}
-use Rattle.text.specs.Line.{decimal, signedDecimal, lineOf, lineRoom}
+use Rattle.text.specs.Line.{lineRoom}
 use Rattle.format.specs.Header.{wellFormed}
 use Rattle.format.proofs.Shape.{shape}
 use Rattle.forms.specs.declared.Form.{Form}
 use Rattle.session.specs.Run.{FillsAs}
 use Rattle.printing.specs.Text.{refusedLine, linesOf, printedOf}
 use Rattle.session.proofs.Outcome.{status-0, served}
-
-pub refused-length : length refusedLine ≡ 13
-unfolding lineOf decimal signedDecimal
-refused-length = refl
 
 module _ (file : List ℕ) where
   pub prints-long : 65536 < length file → printedOf file ≡ refusedLine

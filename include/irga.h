@@ -2,9 +2,9 @@
  * irga.h: the engine of an infrared CO2 analyser's teaching box, as a C library.
  *
  * A lesson is a session file: calibration sheets, then events (load a sheet, set the
- * zero, read a sample, ...); README.md has its bytes, under "The session file". irga_run answers each event with a record of 24 bytes;
- * irga_reading and irga_area take the numbers out of such a record as doubles;
- * irga_lines gives the same answers as text.
+ * zero, read a sample, ...); README.md has its bytes, under "The session file".
+ * irga_run answers each event with a record of 24 bytes; irga_reading and irga_area take
+ * the numbers out of such a record as doubles; irga_lines gives the same answers as text.
  *
  * The library is libhost.a, for x86-64 Linux. It calls no other library:
  *

@@ -33,19 +33,19 @@ records : map recordOfLine (transcriptOf exampleFile) ≡ exampleRows
 records = ap (λ (es : List Entry). map recordOfLine (transcript exampleSheets fresh es)) entries ∙ example .rows
 
 -- the lines go by the records alone
-linesFrom : ℕ → List AnswerRecord → List ℕ
-linesFrom ordinal [] = []
-linesFrom ordinal (a ∷ rest) = lineOf ordinal a ++ linesFrom (ordinal + 1) rest
+printedRows : ℕ → List AnswerRecord → List ℕ
+printedRows ordinal [] = []
+printedRows ordinal (a ∷ rest) = lineOf ordinal a ++ printedRows (ordinal + 1) rest
 
-by-records : (ordinal : ℕ) (ls : List Line) → emittedFrom Form.Lines ordinal ls ≡ linesFrom ordinal (map recordOfLine ls)
-unfolding linesFrom
+by-records : (ordinal : ℕ) (ls : List Line) → emittedFrom Form.Lines ordinal ls ≡ printedRows ordinal (map recordOfLine ls)
+unfolding printedRows
 by-records ordinal [] = refl
 by-records ordinal (l ∷ ls) = ap (λ (rest : List ℕ). lineOf ordinal (recordOfLine l) ++ rest) (by-records (ordinal + 1) ls)
 
-lines : linesFrom 1 exampleRows ≡ exampleText
-unfolding linesFrom decimal signedDecimal lineOf
+lines : printedRows 1 exampleRows ≡ exampleText
+unfolding printedRows decimal signedDecimal lineOf
 lines = refl
 
 pub example-printed : ExamplePrinted
 unfolding printedOf
-example-printed = rw well (by-records 1 (transcriptOf exampleFile) ∙ ap (linesFrom 1) records ∙ lines)
+example-printed = rw well (by-records 1 (transcriptOf exampleFile) ∙ ap (printedRows 1) records ∙ lines)

@@ -10,7 +10,7 @@ use borrow.Author.Tests.{le-leb}
 use lib.IntN.{pos}
 use lib.ListN.{length, take, drop, length-take, length-drop}
 use lib.Seq.{take-take}
-use Rattle.layout.specs.Fields.{AreBytes}
+use Rattle.fields.specs.Fields.{AreBytes}
 use Rattle.layout.specs.Records.{answerAt}
 use Rattle.rules.specs.declared.Answer.{Answer}
 use Rattle.format.specs.Header.{eventCount, wellFormed}

@@ -5,7 +5,7 @@ use mathlib.Core.Bool.{true}
 use mathlib.Core.List.{List, [], _∷_, _++_, map}
 use mathlib.Core.Path.{_≡_, refl, ap, _∙_}
 use Rattle.layout.specs.declared.AnswerRecord.{AnswerRecord}
-use Rattle.layout.specs.Fields.{signed}
+use Rattle.fields.specs.Fields.{signed}
 use Rattle.layout.specs.Records.{eventOf}
 use Rattle.text.specs.Line.{decimal, signedDecimal, lineOf}
 use Rattle.rules.specs.declared.Entry.{Entry}

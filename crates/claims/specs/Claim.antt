@@ -7,7 +7,7 @@ use mathlib.Core.Option.{some}
 use mathlib.Core.Path.{_≡_}
 use lib.ListN.{length, drop, getElem?}
 use Rattle.layout.specs.declared.EventRecord.{EventRecord}
-use Rattle.layout.specs.Fields.{AreBytes}
+use Rattle.fields.specs.Fields.{AreBytes}
 use Rattle.layout.specs.Records.{recordAt, eventAt, answerAt, answerBytes}
 use Rattle.text.specs.Line.{lineOf}
 use Rattle.sheets.specs.Sheets.{sheetsHeld}

@@ -6,7 +6,7 @@ use mathlib.Core.List.{List}
 use mathlib.Core.Path.{_≡_}
 use lib.IntN.{ℤ, pos}
 use lib.ListN.{length, take, drop}
-use Rattle.layout.specs.Fields.{AreBytes}
+use Rattle.fields.specs.Fields.{AreBytes}
 use Rattle.rules.specs.declared.Answer.{Answer}
 use Rattle.format.specs.Header.{eventCount, wellFormed}
 use Rattle.engine.specs.Transcript.{Line}

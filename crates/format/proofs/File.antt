@@ -8,7 +8,7 @@ use lib.ListN.{length, take, drop, length-append}
 use lib.Seq.{take-at, take-add, take-all, drop-at, drop-drop}
 use Rattle.layout.specs.declared.SheetRecord.{SheetRecord}
 use Rattle.layout.specs.declared.EventRecord.{EventRecord}
-use Rattle.layout.specs.Fields.{AreBytes, bytesOf, wordsBytes, u32Bytes}
+use Rattle.fields.specs.Fields.{AreBytes, bytesOf, wordsBytes, u32Bytes}
 use Rattle.layout.specs.Records.{recordAt, sheetOf, sheetBytes, eventOf, eventBytes}
 use Rattle.fields.proofs.Numbers.{number-bytes, bytes-number}
 use Rattle.layout.proofs.RoundTrips.{length-record, record-below, length-sheet, sheet-read, sheet-fits, sheet-written}

@@ -7,7 +7,7 @@ use mathlib.Core.Path.{_≡_}
 use lib.ListN.{length}
 use Rattle.layout.specs.declared.SheetRecord.{SheetRecord}
 use Rattle.layout.specs.declared.EventRecord.{EventRecord}
-use Rattle.layout.specs.Fields.{AreBytes, wordsBytes}
+use Rattle.fields.specs.Fields.{AreBytes, wordsBytes}
 use Rattle.layout.specs.Records.{sheetBytes, SheetFits, eventBytes, EventFits}
 use Rattle.format.specs.Header.{sheetCount, eventCount, wellFormed, sheetsOf, sheetRecordsOf, eventsOf}
 

@@ -15,7 +15,7 @@ use Rattle.engine.specs.Transcript.{Line, lineAt, recordOfLine, recordWith}
 use Rattle.entries.specs.Entries.{entryOf}
 use Rattle.forms.specs.declared.Form.{Form}
 use Rattle.forms.specs.Forms.{emitted, roomOf, roomFrom}
-use Rattle.forms.proofs.KindByte.{kind-kept}
+use Rattle.entries.proofs.KindByte.{kind-kept}
 
 module _ (st : State) (event : EventRecord) (next : Stepped) {a : AnswerRecord} (e : a ≡ recordWith (event .kind) (next .answer)) where
   record-is : recordOfLine (lineAt st (entryOf event) next) ≡ a

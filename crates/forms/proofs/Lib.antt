@@ -1,2 +1,1 @@
-pub mod KindByte
 pub mod Emitting

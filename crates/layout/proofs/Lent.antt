@@ -7,7 +7,7 @@ use mathlib.Core.Path.{_≡_, refl, sym, _∙_}
 use borrow.Author.Tests.{ne-eqb}
 use lib.ListN.{length, length-append, length-take, length-drop}
 use Rattle.layout.specs.Lent.{Puts, Fills}
-use Rattle.layout.proofs.Splices.{splice-none, next}
+use Rattle.fields.proofs.Splices.{splice-none, next}
 
 pub puts-none : (old : List ℕ) (at : ℕ) → at ≤ length old → Puts old at [] old at
 puts-none old at h = record { ends = omega arith; room = h; stands = sym (splice-none old at) }

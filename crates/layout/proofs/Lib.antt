@@ -1,4 +1,3 @@
-pub mod Splices
 pub mod Lent
 pub mod AsCoded
 pub mod RoundTrips

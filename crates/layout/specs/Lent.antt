@@ -6,7 +6,7 @@ use mathlib.Core.List.{List}
 use mathlib.Core.Path.{_≡_}
 use lib.Dec.{eqb}
 use lib.ListN.{length}
-use Rattle.layout.specs.Fields.{splice}
+use Rattle.fields.specs.Fields.{splice}
 
 -- bytes are put into `old` from an offset on, up to the offset `past`, for which it has room: what stood before and after them stays
 pub record Puts (old : List ℕ) (at : ℕ) (bytes out : List ℕ) (past : ℕ) : Type 0 where

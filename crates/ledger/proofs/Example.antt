@@ -3,7 +3,7 @@ use mathlib.Core.Path.{_≡_, refl}
 use lib.IntN.{pos}
 use Rattle.curve.specs.Limits.{sheetWithin}
 use Rattle.curve.specs.Bench.{benchSheet}
-use Rattle.layout.specs.Fields.{signed}
+use Rattle.fields.specs.Fields.{signed}
 use Rattle.layout.specs.Records.{sheetOf}
 use Rattle.rules.specs.declared.Answer.{Answer}
 use Rattle.sheets.specs.declared.Lookup.{Lookup}

@@ -1,7 +1,7 @@
 -- What an accepted sample tells, and what a refused one does: the laws by which proofs about samples take the definition apart. Assumes
 -- nothing.
 use mathlib.Core.Bool.{Bool, true, false, cond}
-use mathlib.Core.Path.{_≡_, refl, subst}
+use mathlib.Core.Path.{_≡_, refl}
 use Prim.Native.Nat.{ℕ, _≤_}
 use native.Mathlib.Omega.{arith}
 use lib.IntN.{ℤ}
@@ -61,13 +61,6 @@ module _ (s : Sheet) (q : ℤ) (span : ℕ) (at : Measurement) where
   pub told : (mode : Mode) (f : Found) → Told mode f (sampledOn s q span mode at f)
   unfolding sampledOn
   told mode f = of-check mode f (checkedOn mode at) refl
-
-  pub accepted-on : (mode : Mode) (f : Found) {r : ℕ} {wet dry : ℤ} → sampledOn s q span mode at f ≡ Sampled.Value r wet dry
-      → AcceptedOn s q span mode at f r wet dry
-  accepted-on mode f e = subst (Told mode f) e (told mode f)
-
-  pub refused-on : (mode : Mode) (f : Found) {number : ℕ} → sampledOn s q span mode at f ≡ Sampled.Refused number → RefusedOn s q span mode at f number
-  refused-on mode f e = subst (Told mode f) e (told mode f)
 
 -- a refusal has a number of the list
 pub refused-number : {s : Sheet} {q : ℤ} {span : ℕ} {mode : Mode} {at : Measurement} {f : Found} {number : ℕ}

@@ -144,9 +144,12 @@ pub fn equation_11(sheet: &Sheet, air: &Air, signal: &Fraction) -> Fraction {
     let n = &signal.upper * &whole(100 * P0);
     let d = &signal.lower * &broadened;
     let a1 = Big::from(i128::from(sheet.a1) * TEN_TO_7 * TEN_TO_7);
-    let a2 = Big::from(i128::from(sheet.a2) * TEN_TO_7);
+    // Below zero the line a1 Z alone.
+    let below = signal.upper.is_negative();
+    let a2 = Big::from(if below { 0 } else { i128::from(sheet.a2) * TEN_TO_7 });
+    let a3 = Big::from(if below { 0 } else { i128::from(sheet.a3) });
     let linear_and_square = &(&(&a1 * &d) + &(&a2 * &n)) * &d;
-    let cubic = &(&whole(sheet.a3) * &n) * &n;
+    let cubic = &(&a3 * &n) * &n;
     let upper = &n * &(&linear_and_square + &cubic);
     let lower = &(&d * &d) * &(&d * &Big::from(TEN_TO_7 * TEN_TO_7 * TEN_TO_7));
     Fraction::new(&upper * &(&broadened * &whole(air.t)), &lower * &whole(100 * air.p * sheet.t0))
@@ -188,9 +191,10 @@ mod tests {
         let a2 = Fraction::of(i128::from(sheet.a2), 10i128.pow(12));
         let a3 = Fraction::of(i128::from(sheet.a3), 10i128.pow(15));
         let square = z.times(&z);
-        let cubic = a1.times(&z).plus(&a2.times(&square)).plus(&a3.times(&square).times(&z));
+        let line = a1.times(&z);
+        let curve = if signal.upper.is_negative() { line } else { line.plus(&a2.times(&square)).plus(&a3.times(&square).times(&z)) };
         let warmth = Fraction::of(i128::from(air.t), i128::from(sheet.t0));
-        cubic.times(&chi).times(&warmth).times(&Fraction::whole(1_000_000))
+        curve.times(&chi).times(&warmth).times(&Fraction::whole(1_000_000))
     }
 
     #[test]

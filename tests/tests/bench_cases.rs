@@ -51,7 +51,9 @@ fn refused(kind: u8, refusal: u8) -> Answer {
 fn around_nothing() {
     assert_eq!(read(bench::AIR, 0), Ok(0));
     assert_eq!(read(bench::AIR, 1), Ok(15));
-    assert_eq!(read(bench::AIR, -1), Err(7));
+    assert_eq!(read(bench::AIR, -1), Ok(-15));
+    assert_eq!(read(bench::AIR, -2_000_000), Ok(-30_000_000));
+    assert_eq!(read(bench::AIR, -2_000_001), Err(7));
 }
 
 #[test]

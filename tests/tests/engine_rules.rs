@@ -175,7 +175,7 @@ fn a_refused_sample_closes_a_running_integration() {
     let closing = [
         (Entry::Malformed(6), 11),
         (Entry::Known(Event::Sample { raw: 0, p: 0, t: 0, e: 0 }), 6),
-        (Entry::Known(good(-1)), 7),
+        (Entry::Known(good(-2_000_001)), 7),
         (Entry::Known(good(100_000_000)), 8),
     ];
     for (entry, number) in closing {

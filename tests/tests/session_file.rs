@@ -48,7 +48,9 @@ fn answers_stand_at_the_start_and_the_rest_stays() {
     let mut expected = [0u8; 51];
     expected[0] = 1;
     expected[24] = 6;
-    expected[25] = 7;
+    // Raw −2 reads −30, wet and dry.
+    expected[32..40].copy_from_slice(&(-30i64).to_le_bytes());
+    expected[40..48].copy_from_slice(&(-30i64).to_le_bytes());
     expected[48..].fill(0xAA);
     assert_eq!(output, expected);
 }

@@ -157,7 +157,7 @@ fn row(mv: u16, tenths: u16) {
     io::write_all(STDOUT_FILENO, b"\n");
 }
 
-// The wet value of a signal on the table's sheet; -1, which no wet value is, where it is refused.
+// The wet value of a signal on the table's sheet; -1, which no row of the table reads, where it is refused.
 fn table_reading(v: i64) -> i64
     ensures { λ r. ⌜ natAbs r ≤ 3000000000 ⌝ }
 {

@@ -4,12 +4,13 @@ use mathlib.Core.Bool.{Bool, true, false, cond}
 use Prim.Native.Nat.{ℕ, _≤_}
 use native.Mathlib.Omega.{arith}
 use lib.IntN.{ℤ, pos, natAbs}
-use lib.Signed.{ltZ, _≤ℤ_, _<ℤ_}
+use lib.Signed.{_≤ℤ_, _<ℤ_, leZ-yes}
 use mathlib.Core.List.{[], _∷_}
 use mathlib.Core.Logic.{_⊎_, inl, inr, ⊎-elim}
 use types.Run.{OneOf}
 use denote.Enum.Declared.{tagOf}
-use Rattle.rounding.proofs.Tests.{lt-false, le-false, false-lt, size-of}
+use Rattle.rounding.proofs.Integers.{≤ℤ-trans}
+use Rattle.rounding.proofs.Tests.{lt-false, le-false, false-lt, size-between}
 use Rattle.curve.proofs.Reading.{the-type}
 use Rattle.curve.specs.declared.Sheet.{Sheet}
 use Rattle.curve.specs.declared.Air.{Air}
@@ -17,15 +18,16 @@ use Rattle.curve.specs.declared.Reading.{Reading}
 use Rattle.curve.specs.declared.Reading.the-variants.{Value, BelowZero, OverRange}
 use Rattle.curve.specs.Limits.{SheetOk, AirOk}
 use Rattle.curve.specs.Curve.{reducedOf, wetOf}
-use Rattle.curve.specs.Absolute.{signalHigh, signalAtK, reducedHigh, wetHigh, unlessOver, absoluteOf}
-use Rattle.curve.proofs.Order.{reduced-nonnegative, wet-nonnegative}
+use Rattle.curve.specs.Absolute.{lowestSignal, signalLow, signalHigh, signalAtK, reducedHigh, wetHigh, unlessOver, absoluteOf}
+use Rattle.curve.proofs.Order.{reduced-mono, wet-mono}
+use Rattle.curve.proofs.Sizes.{lowest-z, lowest-wet}
 
 pub record Accepted (s : Sheet) (v : ℤ) (a : Air) (c : ℤ) : Type 0 where
-  pub from-0 : pos 0 ≤ℤ v
+  pub from-low : lowestSignal ≤ℤ v
   pub below-k : v <ℤ pos (s .k)
   pub z-high : reducedOf v a ≤ℤ pos 100000000
   pub c-high : c ≤ℤ pos 3000000000
-  pub value : wetOf s (reducedOf v a) a ≡ c
+  pub value : wetOf s v (reducedOf v a) a ≡ c
 
 pub not-value : (r : Reading) (c : ℤ) → r ≡ Value c → r ≡ OverRange → ⊥
 not-value r c p q = let z : _≡_ {A = ℕ} 0 1 = cc in omega arith
@@ -50,9 +52,9 @@ refused OverRange t = inr refl
 pub not-below-zero : (s : Sheet) (v : ℤ) (a : Air) → pos 0 ≤ℤ v → absoluteOf s v a ≡ BelowZero → ⊥
 unfolding absoluteOf
 not-below-zero s v a h p =
-    let z = reducedOf v a in let c = wetOf s z a in
+    let z = reducedOf v a in let c = wetOf s v z a in
     not-over (signalHigh v) _ (not-over (signalAtK s v) _ (not-over (reducedHigh z) _ (not-over (wetHigh c) _ (λ q. not-below c (sym q)))))
-    (rw (false-lt v (pos 0) h) at p)
+    (rw (false-lt v lowestSignal (≤ℤ-trans (leZ-yes tt) h)) at p)
   where
     not-over : (x : Bool) (q : Reading) → (q ≡ BelowZero → ⊥) → unlessOver x q ≡ BelowZero → ⊥
     not-over true q f p = let z : _≡_ {A = ℕ} 0 1 = cc in omega arith
@@ -67,23 +69,23 @@ passed : (ground : Bool) (r : Reading) {c : ℤ} → unlessOver ground r ≡ Val
 passed true r {c} q = absurd (not-value OverRange c q refl)
 passed false r q = (refl, q)
 
-nonnegative : (t : Bool) (r : Reading) {c : ℤ} → cond t BelowZero r ≡ Value c → (t ≡ false) × (r ≡ Value c)
-nonnegative true r {c} q = absurd (not-below c q)
-nonnegative false r q = (refl, q)
+not-low : (t : Bool) (r : Reading) {c : ℤ} → cond t BelowZero r ≡ Value c → (t ≡ false) × (r ≡ Value c)
+not-low true r {c} q = absurd (not-below c q)
+not-low false r q = (refl, q)
 
 pub accepted : (s : Sheet) (v : ℤ) (a : Air) (c : ℤ) → absoluteOf s v a ≡ Value c → Accepted s v a c
 unfolding absoluteOf
 accepted s v a c q =
     let z = reducedOf v a in
-    let w = wetOf s z a in
-    let q0 = nonnegative (ltZ v (pos 0)) _ q in
+    let w = wetOf s v z a in
+    let q0 = not-low (signalLow v) _ q in
     let q1 = passed (signalHigh v) _ (q0 .1) in
     let q2 = passed (signalAtK s v) _ (q1 .1) in
     let q3 = passed (reducedHigh z) _ (q2 .1) in
     let q4 = passed (wetHigh w) _ (q3 .1) in
     let e = value-same (q4 .1) in
     record {
-      from-0 = lt-false v (pos 0) (q0 .0);
+      from-low = lt-false v lowestSignal (q0 .0);
       below-k = le-false (pos (s .k)) v (q2 .0);
       z-high = lt-false (pos 100000000) z (q3 .0);
       c-high = subst (λ (x : ℤ). x ≤ℤ pos 3000000000) e (lt-false (pos 3000000000) w (q4 .0));
@@ -92,10 +94,7 @@ accepted s v a c q =
 
 module _ (s : Sheet) (a : Air) (okS : SheetOk s) (okA : AirOk a) {v c : ℤ} (h : Accepted s v a c) where
   pub z-size : natAbs (reducedOf v a) ≤ 100000000
-  z-size = size-of (reduced-nonnegative a okA (h .from-0)) (h .z-high)
-
-  pub value-nonnegative : pos 0 ≤ℤ c
-  value-nonnegative = subst (λ (x : ℤ). pos 0 ≤ℤ x) (h .value) (wet-nonnegative s a okS okA (reduced-nonnegative a okA (h .from-0)))
+  z-size = size-between (omega (arith, lowest-z s a okS okA)) (reduced-mono a okA (h .from-low)) (h .z-high)
 
   pub value-size : natAbs c ≤ 3000000000
-  value-size = size-of value-nonnegative (h .c-high)
+  value-size = size-between (lowest-wet s a okS okA) (subst (λ (x : ℤ). wetOf s lowestSignal (reducedOf lowestSignal a) a ≤ℤ x) (h .value) (wet-mono s a okS okA (h .from-low))) (h .c-high)

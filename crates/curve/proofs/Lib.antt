@@ -1,3 +1,4 @@
+pub mod Seam
 pub mod Within
 pub mod Sizes
 pub mod Order

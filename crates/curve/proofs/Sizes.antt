@@ -1,7 +1,9 @@
 -- How large each rounded step can be, so that every product fits a word. Assumes nothing.
 use Prim.Native.Nat.{ℕ, _+_, _*_, _≤_, _<_}
-use native.Mathlib.Nat.{mul-le-mul-right}
+use native.Mathlib.Nat.{mul-le-mul-left, mul-le-mul-right}
 use native.Mathlib.Omega.{arith}
+use mathlib.Core.Bool.{Bool, true, false, cond}
+use lib.Signed.{ltZ}
 use lib.IntN.{ℤ, pos, natAbs, _*ℤ_}
 use Rattle.rounding.specs.Near.{nearest}
 use Rattle.rounding.proofs.Integers.{abs-add, abs-mul, prod}
@@ -9,7 +11,8 @@ use Rattle.rounding.proofs.Nearest.{near-size}
 use Rattle.curve.specs.declared.Sheet.{Sheet}
 use Rattle.curve.specs.declared.Air.{Air}
 use Rattle.curve.specs.Limits.{SheetOk, AirOk}
-use Rattle.curve.specs.Curve.{broadeningOf, slope2Of, slope1Of, cubicOf, moistOf}
+use Rattle.curve.specs.Absolute.{lowestSignal}
+use Rattle.curve.specs.Curve.{broadeningOf, reducedOf, slope2Of, slope1Of, cubicOf, straightOf, curveOf, moistOf, warmOf, wetOf}
 
 -- a product over d is at most m, from bounds of its factors
 ratio-size : (A B m : ℕ) (x y : ℤ) {d : ℕ} → 0 < d → natAbs x ≤ A → natAbs y ≤ B → A * B ≤ m * d → natAbs (nearest (x *ℤ y) d) ≤ m
@@ -34,14 +37,39 @@ module _ (s : Sheet) (ok : SheetOk s) (z : ℤ) (h : natAbs z ≤ 100000000) whe
   unfolding cubicOf
   cubic-size = ratio-size 100000000 3000000000 30000000000 z (slope1Of s z) (omega arith) h slope1-size (omega arith)
 
+  pub straight-size : natAbs (straightOf s z) ≤ 30000000000
+  unfolding straightOf
+  straight-size = ratio-size 100000000 1000000000 30000000000 z (pos (s .a1)) (omega arith) h (ok .a1-high) (omega arith)
+
+  pub curve-size : (v : ℤ) → natAbs (curveOf s v z) ≤ 30000000000
+  curve-size v = by-sign (ltZ v (pos 0))
+    where
+      by-sign : (t : Bool) → natAbs (cond t (straightOf s z) (cubicOf s z)) ≤ 30000000000
+      by-sign true = straight-size
+      by-sign false = cubic-size
+
 pub broadening-high : (a : Air) → AirOk a → broadeningOf a ≤ 12155500
 broadening-high a ok = omega (arith, ok .p-high, ok .e-high)
 
-pub moist-size : (f : ℤ) (a : Air) → AirOk a → natAbs f ≤ 30000000000 → natAbs (moistOf f a) ≤ 40000000000
+pub moist-size : (m : ℕ) (f : ℤ) (a : Air) → AirOk a → natAbs f ≤ 3 * m → natAbs (moistOf f a) ≤ 4 * m
 unfolding moistOf
-moist-size f a ok h =
-    near-size (f *ℤ pos (broadeningOf a)) 40000000000 (omega (arith, ok .p-low))
+moist-size m f a ok h =
+    near-size (f *ℤ pos (broadeningOf a)) (4 * m) (omega (arith, ok .p-low))
     (rw (abs-mul f (pos (broadeningOf a))) (core (natAbs f) (a .p) (a .e) h (ok .e-high)))
   where
-    core : (n p e : ℕ) → n ≤ 30000000000 → 10 * e ≤ p → n * (100 * p + 57 * e) ≤ 40000000000 * (100 * p)
-    core n p e b k = omega (arith, mul-le-mul-right (100 * p + 57 * e) b)
+    core : (n p e : ℕ) → n ≤ 3 * m → 10 * e ≤ p → n * (100 * p + 57 * e) ≤ 4 * m * (100 * p)
+    core n p e b k = omega (arith, mul-le-mul-right (100 * p + 57 * e) b, mul-le-mul-left m k)
+
+-- ---- the wet value of the lowest signal of the line
+module _ (s : Sheet) (a : Air) (okS : SheetOk s) (okA : AirOk a) where
+  pub lowest-z : natAbs (reducedOf lowestSignal a) ≤ 4000000
+  unfolding reducedOf
+  lowest-z = near-size (lowestSignal *ℤ pos 10130000) 4000000 (omega (arith, okA .p-low)) (omega (arith, okA .p-low))
+
+  pub lowest-wet : natAbs (wetOf s lowestSignal (reducedOf lowestSignal a) a) ≤ 3000000000
+  unfolding wetOf warmOf straightOf
+  lowest-wet =
+      let z = reducedOf lowestSignal a in
+      let f = ratio-size 4000000 1000000000 600000000 z (pos (s .a1)) {d = 10000000} (omega arith) lowest-z (okS .a1-high) (omega arith) in
+      let g = moist-size 200000000 (straightOf s z) a okA f in
+      ratio-size 800000000 32315 3000000000 (moistOf (straightOf s z) a) (pos (a .t)) (omega (arith, okS .t0-low)) g (okA .t-high) (omega (arith, okS .t0-low))

@@ -1,6 +1,6 @@
 -- The starred readings of document 01, "Readings on the bench", as statements about the rules. Assumes nothing.
 use mathlib.Core.Path.{_≡_}
-use lib.IntN.{pos, negsuc}
+use lib.IntN.{pos, negℤ}
 use Rattle.curve.specs.declared.Sheet.{Sheet}
 use Rattle.curve.specs.declared.Air.{Air}
 use Rattle.curve.specs.declared.Reading.the-variants.{Value}
@@ -22,8 +22,10 @@ dampAir = record { p = 100000; t = 29815; e = 2000 }
 pub record StarredReadings : Type 0 where
   pub v-0 : absoluteOf benchSheet (pos 0) benchAir ≡ Value (pos 0)
   pub v-1 : absoluteOf benchSheet (pos 1) benchAir ≡ Value (pos 15)
-  -- V −1: refusal 7
-  pub v-minus-1 : readingRefusal (absoluteOf benchSheet (negsuc 0) benchAir) ≡ 7
+  -- below zero (R-1): V −1, the lowest signal that is read, and one below it, refusal 7
+  pub v-minus-1 : absoluteOf benchSheet (negℤ (pos 1)) benchAir ≡ Value (negℤ (pos 15))
+  pub v-minus-2000000 : absoluteOf benchSheet (negℤ (pos 2000000)) benchAir ≡ Value (negℤ (pos 30000000))
+  pub v-minus-2000001 : readingRefusal (absoluteOf benchSheet (negℤ (pos 2000001)) benchAir) ≡ 7
   pub v-39999999 : absoluteOf benchSheet (pos 39999999) benchAir ≡ Value (pos 999999967)
   pub v-40000000 : absoluteOf benchSheet (pos 40000000) benchAir ≡ Value (pos 1000000000)
   pub p-81040 : absoluteOf benchSheet (pos 32000000) (record { p = 81040; t = 29815; e = 0 }) ≡ Value (pos 1000000000)

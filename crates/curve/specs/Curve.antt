@@ -1,7 +1,9 @@
 -- The rounded steps of document 01, "Curve and absolute reading", from a signal to its wet and dry value. Each step has the
 -- name of what it stands for, and document 01's letter beside it. `nearest` is document 01's near. Assumes nothing.
 use Prim.Native.Nat.{ℕ, _+_, _*_, _-_}
+use mathlib.Core.Bool.{cond}
 use lib.IntN.{ℤ, pos, _+ℤ_, _*ℤ_}
+use lib.Signed.{ltZ}
 use Rattle.rounding.specs.Near.{nearest}
 use Rattle.curve.specs.declared.Sheet.{Sheet}
 use Rattle.curve.specs.declared.Air.{Air}
@@ -22,9 +24,17 @@ slope2Of s z = pos (s .a2) +ℤ nearest (z *ℤ pos (s .a3)) 10000000
 unfoldable pub slope1Of : Sheet → ℤ → ℤ
 slope1Of s z = pos (s .a1) +ℤ nearest (z *ℤ slope2Of s z) 10000000
 
--- f: z h1 / 10^7, the sheet's curve
+-- f of a signal from 0 on: z h1 / 10^7, the sheet's cubic
 unfoldable pub cubicOf : Sheet → ℤ → ℤ
 cubicOf s z = nearest (z *ℤ slope1Of s z) 10000000
+
+-- f of a signal below 0 (R-1): z A1 / 10^7, the straight line a1 Z
+unfoldable pub straightOf : Sheet → ℤ → ℤ
+straightOf s z = nearest (z *ℤ pos (s .a1)) 10000000
+
+-- f: the sheet's curve, by the sign of the signal V that is reduced to z
+abbrev pub curveOf : Sheet → ℤ → ℤ → ℤ
+curveOf s v z = cond (ltZ v (pos 0)) (straightOf s z) (cubicOf s z)
 
 -- g: f D / (100 P), which is f χ
 unfoldable pub moistOf : ℤ → Air → ℤ
@@ -34,9 +44,9 @@ moistOf f a = nearest (f *ℤ pos (broadeningOf a)) (100 * a .p)
 unfoldable pub warmOf : Sheet → ℤ → Air → ℤ
 warmOf s g a = nearest (g *ℤ pos (a .t)) (s .t0)
 
--- the wet value c of a reduced signal z
-unfoldable pub wetOf : Sheet → ℤ → Air → ℤ
-wetOf s z a = warmOf s (moistOf (cubicOf s z) a) a
+-- the wet value c of a signal V that is reduced to z
+unfoldable pub wetOf : Sheet → ℤ → ℤ → Air → ℤ
+wetOf s v z a = warmOf s (moistOf (curveOf s v z) a) a
 
 -- the dry value of a wet one: c P / (P − e)
 unfoldable pub dryOf : ℤ → Air → ℤ

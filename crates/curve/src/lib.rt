@@ -6,7 +6,7 @@ use crate::steps::reduced;
 use crate::steps::wet;
 use rounding::signed::above;
 use rounding::signed::at_least;
-use rounding::signed::below_zero;
+use rounding::signed::below;
 
 pub mod limits;
 pub mod steps;
@@ -30,7 +30,7 @@ pub struct Air {
 // The wet value in pmol/mol, or why there is none.
 pub enum Reading {
     Value(i64),
-    // Refusal 7.
+    // Refusal 7: further below zero than noise goes.
     BelowZero,
     // Refusal 8.
     OverRange,
@@ -52,7 +52,7 @@ pub fn absolute(s: Sheet, v: i64, a: Air) -> Reading
     requires { ⌜ SheetOk s × AirOk a ⌝ }
     ensures { λ r. ⌜ r ≡ absoluteOf s v a ⌝ }
 {
-    if below_zero(v) {
+    if below(v, 2000000) {
         return Reading::BelowZero;
     }
     // Before z is computed, so that its product fits.
@@ -66,7 +66,7 @@ pub fn absolute(s: Sheet, v: i64, a: Air) -> Reading
     if above(z, 100000000) {
         return Reading::OverRange;
     }
-    let c = wet(s, z, a);
+    let c = wet(s, v, z, a);
     if above(c, 3000000000) {
         return Reading::OverRange;
     }

@@ -6,7 +6,7 @@ use lib.IntN.{ℤ, pos, _+ℤ_, _-ℤ_, _*ℤ_}
 use Rattle.rounding.specs.Near.{nearest}
 use Rattle.rounding.proofs.Difference.{is-nat, is-add, is-minus, is-mul, is-parts, is-eq}
 use Rattle.curve.specs.Limits.{airWithin}
-use Rattle.curve.specs.Curve.{reducedOf, slope2Of, slope1Of, cubicOf, moistOf, warmOf, wetOf, dryOf}
+use Rattle.curve.specs.Curve.{reducedOf, slope2Of, slope1Of, cubicOf, straightOf, moistOf, warmOf, wetOf, dryOf}
 use Rattle.curve.specs.Absolute.{absoluteOf}
 use Rattle.curve.proofs.Bench.{starred-readings}
 use Rattle.reference.specs.declared.Found.{Found}
@@ -61,7 +61,7 @@ abbrev spanned : Found → Stepped
 spanned f = spanBy benchState (settingOf f)
 
 pub starred-cases : StarredCases
-unfolding sampledOf sampledOn spannedOn areaAnswer tallyArea airWithin absoluteOf signalOf againstOf nearest reducedOf slope2Of slope1Of cubicOf moistOf warmOf wetOf dryOf
+unfolding sampledOf sampledOn spannedOn areaAnswer tallyArea airWithin absoluteOf signalOf againstOf nearest reducedOf slope2Of slope1Of cubicOf straightOf moistOf warmOf wetOf dryOf
 starred-cases =
     record {
       readings = starred-readings;
@@ -69,6 +69,8 @@ starred-cases =
       v-0 = refl;
       v-1 = refl;
       v-minus-1 = refl;
+      v-minus-2000000 = refl;
+      v-minus-2000001 = refl;
       v-39999999 = refl;
       v-40000000 = refl;
       p-81040 = refl;

@@ -3,7 +3,7 @@
 use mathlib.Core.List.{List, [], _∷_}
 use mathlib.Core.Path.{_≡_}
 use Prim.Native.Nat.{ℕ}
-use lib.IntN.{ℤ, pos, negsuc, _*ℤ_}
+use lib.IntN.{ℤ, pos, negsuc, negℤ, _*ℤ_}
 use Rattle.curve.specs.Bench.{benchSheet, StarredReadings}
 use Rattle.reference.specs.Bench.{smallSheet, StarredReferences}
 use Rattle.counting.specs.declared.Integration.{Integration}
@@ -86,10 +86,12 @@ pub record StarredCases : Type 0 where
   -- of the crates below, z among them
   pub readings : StarredReadings
   pub references : StarredReferences
-  -- V 0, 1, −1, 39,999,999 and 40,000,000
+  -- V 0, 1, −1, the lowest that is read and one below it (R-1), 39,999,999 and 40,000,000
   pub v-0 : Answers benchState (sample (pos 0)) (Answer.Reading 0 (pos 0) (pos 0))
   pub v-1 : Answers benchState (sample (pos 1)) (Answer.Reading 0 (pos 15) (pos 15))
-  pub v-minus-1 : Answers benchState (sample (negsuc 0)) (Answer.Refused 7)
+  pub v-minus-1 : Answers benchState (sample (negℤ (pos 1))) (Answer.Reading 0 (negℤ (pos 15)) (negℤ (pos 15)))
+  pub v-minus-2000000 : Answers benchState (sample (negℤ (pos 2000000))) (Answer.Reading 0 (negℤ (pos 30000000)) (negℤ (pos 30000000)))
+  pub v-minus-2000001 : Answers benchState (sample (negℤ (pos 2000001))) (Answer.Refused 7)
   pub v-39999999 : Answers benchState (sample (pos 39999999)) (Answer.Reading 0 (pos 999999967) (pos 999999967))
   pub v-40000000 : Answers benchState (sample (pos 40000000)) (Answer.Reading 0 (pos 1000000000) (pos 1000000000))
   -- P 81,040, V 32,000,000; T 30,411, V 40,000,000

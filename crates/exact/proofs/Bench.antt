@@ -38,3 +38,13 @@ e-2000-wet = computed _ _ _ tt tt
 pub e-2000-dry : LiesWithin (pos 1055299366) 1 (exactDry (exactWet benchSheet (whole (pos 40456000)) dampAir) dampAir)
 unfolding exactDry exactWet exactCurve exactReduced
 e-2000-dry = computed _ _ _ tt tt
+
+-- below zero the line: V −1 is −15 exactly. At the seam: raw −1 under the span 500,000 is an exact signal of −1/2, worth −7.5, where
+-- the rounded signal is 0
+pub v-minus-1 : LiesWithin (negsuc 14) 0 (exactWet benchSheet (whole (negsuc 0)) benchAir)
+unfolding exactWet exactCurve exactReduced
+v-minus-1 = computed _ _ _ tt tt
+
+pub seam : LiesWithin (pos 0) 8 (exactWet benchSheet (exactSignal (negsuc 0) (pos 0) 500000) benchAir)
+unfolding exactWet exactCurve exactReduced exactSignal
+seam = computed _ _ _ tt tt

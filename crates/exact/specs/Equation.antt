@@ -1,11 +1,13 @@
 -- Equation (11) of source document 004 in exact fractions: C = χ F(x P0 / (P χ)) T / T0, at an exact signal x, by document 01's
--- terms with no near and no refusal. D = 100 P χ is that of the absolute reading. Assumes nothing.
+-- terms with no near and no refusal; below zero R-1's straight line stands for F. D = 100 P χ is that of the absolute reading.
+-- Assumes nothing.
 use Prim.Native.Nat.{_*_, _-_}
+use mathlib.Core.Bool.{cond}
 use lib.IntN.{pos}
 use Rattle.curve.specs.declared.Sheet.{Sheet}
 use Rattle.curve.specs.declared.Air.{Air}
 use Rattle.curve.specs.Curve.{broadeningOf}
-use Rattle.exact.specs.Fraction.{Fraction, whole, plus, times, scaled, over}
+use Rattle.exact.specs.Fraction.{Fraction, whole, plus, times, scaled, over, belowZero}
 
 -- z: 10,130,000 x / D, which is x P0 / (P χ) with P0 = 101,300
 unfoldable pub exactReduced : Fraction → Air → Fraction
@@ -29,10 +31,18 @@ millivolts z = over z 10000
 abbrev pub polynomial : Sheet → Fraction → Fraction
 polynomial s Z = plus (plus (times (a1Of s) Z) (times (a2Of s) (times Z Z))) (times (a3Of s) (times (times Z Z) Z))
 
--- f: the sheet's curve F at z, in pmol/mol, of which 10^6 make 1 µmol/mol. So a1 Z counts as A1 z / 10^7, a2 Z² as A2 z² / 10^14
--- and a3 Z³ as A3 z³ / 10^21.
-unfoldable pub exactCurve : Sheet → Fraction → Fraction
-exactCurve s z = scaled (polynomial s (millivolts z)) 1000000
+-- the straight line a1 Z, which stands below zero (R-1)
+abbrev pub straightLine : Sheet → Fraction → Fraction
+straightLine s Z = times (a1Of s) Z
+
+-- the sheet's curve of the exact signal x, at the Z that x is reduced to: the straight line where x is below zero, F from zero on
+abbrev pub sheetCurve : Sheet → Fraction → Fraction → Fraction
+sheetCurve s x Z = cond (belowZero x) (straightLine s Z) (polynomial s Z)
+
+-- f: that curve at z, in pmol/mol, of which 10^6 make 1 µmol/mol. So a1 Z counts as A1 z / 10^7, a2 Z² as A2 z² / 10^14 and a3 Z³ as
+-- A3 z³ / 10^21.
+unfoldable pub exactCurve : Sheet → Fraction → Fraction → Fraction
+exactCurve s x z = scaled (sheetCurve s x (millivolts z)) 1000000
 
 -- g: f D / (100 P), which is f χ
 abbrev pub exactMoist : Fraction → Air → Fraction
@@ -44,7 +54,7 @@ exactWarm s g a = over (scaled g (a .t)) (s .t0)
 
 -- the exact wet value of the signal x
 unfoldable pub exactWet : Sheet → Fraction → Air → Fraction
-exactWet s x a = exactWarm s (exactMoist (exactCurve s (exactReduced x a)) a) a
+exactWet s x a = exactWarm s (exactMoist (exactCurve s x (exactReduced x a)) a) a
 
 -- the exact dry value of an exact wet one: c P / (P − e)
 unfoldable pub exactDry : Fraction → Air → Fraction

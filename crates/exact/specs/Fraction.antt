@@ -2,8 +2,9 @@
 -- and comparisons of such pairs are taken by multiplying across." Each predicate says itself that the lower number is above 0,
 -- since with 0 there it would say nothing of the whole number. Assumes nothing.
 use Prim.Native.Nat.{ℕ, _*_, _≤_, _<_}
+use mathlib.Core.Bool.{Bool}
 use lib.IntN.{ℤ, pos, natAbs, _+ℤ_, _-ℤ_, _*ℤ_}
-use lib.Signed.{_≤ℤ_, _<ℤ_}
+use lib.Signed.{ltZ, _≤ℤ_, _<ℤ_}
 
 -- num / den
 pub record Fraction : Type 0 where
@@ -35,6 +36,10 @@ scaled x n = record { num = x .num *ℤ pos n; den = x .den }
 -- x / n
 abbrev pub over : Fraction → ℕ → Fraction
 over x n = record { num = x .num; den = x .den * n }
+
+-- whether x is below 0: the upper number is, as the lower one is above 0
+abbrev pub belowZero : Fraction → Bool
+belowZero x = ltZ (x .num) (pos 0)
 
 -- ---- predicates
 

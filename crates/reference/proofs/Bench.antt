@@ -13,7 +13,7 @@ use Rattle.curve.specs.Limits.{SheetOk, AirOk}
 use Rattle.curve.specs.Curve.{reducedOf, slope2Of, slope1Of, cubicOf, moistOf, warmOf, wetOf}
 use Rattle.curve.specs.Absolute.{absoluteOf}
 use Rattle.curve.specs.Bench.{benchSheet, benchAir}
-use Rattle.curve.proofs.Order.{NotAbove}
+use Rattle.curve.specs.Order.{NotAbove}
 use Rattle.reference.specs.declared.Found.the-variants.{At, Nothing}
 use Rattle.reference.specs.declared.Sought.the-variants.{Signal, Span}
 use Rattle.reference.specs.Signal.{signalOf, againstOf}

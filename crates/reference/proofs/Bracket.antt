@@ -16,7 +16,7 @@ use Rattle.curve.specs.declared.Reading.the-variants.{Value, BelowZero, OverRan
 use Rattle.curve.specs.Limits.{SheetOk, AirOk}
 use Rattle.curve.specs.Absolute.{absoluteOf}
 use Rattle.curve.proofs.Accepted.{not-value, not-below-zero}
-use Rattle.curve.proofs.Order.{NotAbove, from-below, values, to-over}
+use Rattle.curve.specs.Order.{NotAbove, from-below, values, to-over}
 use Rattle.reference.specs.declared.Found.the-variants.{At, Nothing}
 use Rattle.reference.specs.declared.Sought.the-variants.{Signal}
 use Rattle.reference.specs.Search.{least, serves, referenceOf, readingUnder, spanOf}

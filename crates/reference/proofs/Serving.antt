@@ -20,7 +20,8 @@ use Rattle.curve.proofs.Accepted.{not-value, value-same, over-range}
 use Rattle.curve.specs.declared.Sheet.{Sheet}
 use Rattle.curve.specs.declared.Air.{Air}
 use Rattle.curve.specs.Limits.{SheetOk, AirOk}
-use Rattle.curve.proofs.Order.{NotAbove, from-below, values, to-over, absolute-mono, absolute-zero}
+use Rattle.curve.specs.Order.{NotAbove, from-below, values, to-over}
+use Rattle.curve.proofs.Order.{absolute-mono, absolute-zero}
 use Rattle.reference.specs.declared.Sought.{Sought}
 use Rattle.reference.specs.declared.Sought.the-variants.{Signal, Span}
 use Rattle.reference.specs.Signal.{signalOf}
@@ -77,8 +78,8 @@ signal-from-0 raw q v h = near-nonnegative 1000000 (omega arith) (nonnegative-sc
 
 module _ (s : Sheet) (a : Air) where
   pub sought-rises : SheetOk s → AirOk a → (u : Sought) (n : ℕ) → SoughtOk u n → Rising (soughtReading s a u)
-  sought-rises okS okA Signal n h v w l = absolute-mono s a okS okA (pos-mono l)
-  sought-rises okS okA (Span raw q) n h v w l = absolute-mono s a okS okA (signal-rises raw q (h .2) l)
+  sought-rises okS okA Signal n h v w l = absolute-mono s a okS okA _ _ (pos-mono l)
+  sought-rises okS okA (Span raw q) n h v w l = absolute-mono s a okS okA _ _ (signal-rises raw q (h .2) l)
 
   -- a reading that is no value is over range
   pub sought-over : (u : Sought) (n : ℕ) → SoughtOk u n → (v : ℕ) {r : Reading} → r ≡ soughtReading s a u v → OneOf (1 ∷ 2 ∷ []) (tagOf the-type r)
@@ -93,4 +94,4 @@ unfolding signalOf
 never-serves s a okS okA raw q cylinder h e span =
     let d = raw -ℤ q in
     let high = near-nonpositive 1000000 (omega arith) (nonpositive-scale span (nonpositive (le-false (pos 1) d e))) in
-    low-above cylinder (absolute-mono s a okS okA high) (absolute-zero s a okS okA) (lt-leb cylinder 0 h)
+    low-above cylinder (absolute-mono s a okS okA _ _ high) (absolute-zero s a okS okA) (lt-leb cylinder 0 h)

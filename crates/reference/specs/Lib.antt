@@ -1,4 +1,5 @@
 pub mod Signal
 pub mod Search
+pub mod Order
 pub mod Sought
 pub mod Bench

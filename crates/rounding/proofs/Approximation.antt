@@ -3,12 +3,12 @@
 -- Assumes nothing.
 use mathlib.Core.Path.{_≡_, ap}
 use Prim.Native.Nat.{ℕ, _+_, _*_, _≤_, _<_}
-use native.Mathlib.Nat.{mul-pos, mul-le-mul-left, mul-le-mul-right, le-of-mul-le-mul-left}
+use native.Mathlib.Nat.{le-refl, le-trans, mul-pos, mul-le-mul-left, mul-le-mul-right, le-of-mul-le-mul-left}
 use native.Mathlib.Omega.{arith}
-use lib.IntN.{ℤ, pos, negℤ, natAbs, _+ℤ_, _-ℤ_, _*ℤ_}
+use lib.IntN.{ℤ, pos, negsuc, negℤ, natAbs, _+ℤ_, _-ℤ_, _*ℤ_}
 use Rattle.rounding.specs.Near.{nearest}
-use Rattle.rounding.proofs.Difference.{is-eq, is-nat, is-add, is-minus, is-mul, is-scale, is-parts, abs-le}
-use Rattle.rounding.proofs.Integers.{abs-neg, abs-add, abs-mul}
+use Rattle.rounding.proofs.Difference.{is-eq, is-nat, is-add, is-minus, is-mul, is-scale, is-parts, up, down, abs-le, of-abs-le}
+use Rattle.rounding.proofs.Integers.{raised, abs-neg, abs-add, abs-mul}
 use Rattle.rounding.proofs.Nearest.{Half, near-half}
 
 pub record Within (c num : ℤ) (den E S : ℕ) : Type 0 where
@@ -63,6 +63,22 @@ module _ {c n : ℤ} {d E S : ℕ} (w : Within c n d E S) where
     where
       core : (y u v : ℕ) → y * 1 ≤ u + v → u * S ≤ E * d → v * S ≤ F * d → y * S ≤ (E + F) * d
       core y u v t a b = omega (arith, mul-le-mul-right S t)
+
+  -- both raised to 0 where they are below it, which brings them no further apart
+  pub within-raised : Within (raised c) (raised n) d E S
+  within-raised = record { within = le-trans (mul-le-mul-right S closer) (w .within) }
+    where
+      sides : (c n : ℤ) (k : ℕ) → (up c * d + down n ≤ down c * d + up n + k) × (down c * d + up n ≤ up c * d + down n + k) → (up c * d ≤ up n + k) × (up n ≤ up c * d + k)
+      sides (pos p) (pos q) k h = omega arith
+      sides (pos p) (negsuc q) k h = omega arith
+      sides (negsuc p) (pos q) k h = omega arith
+      sides (negsuc p) (negsuc q) k h = omega arith
+
+      closer : natAbs (raised c *ℤ pos d -ℤ raised n) ≤ natAbs (c *ℤ pos d -ℤ n)
+      closer =
+          let k = natAbs (c *ℤ pos d -ℤ n) in
+          let h = sides c n k (of-abs-le k (is-minus (is-scale d (is-parts c)) (is-parts n)) (le-refl k)) in
+          abs-le k (is-minus (is-scale d (is-nat (up c))) (is-nat (up n))) (omega arith) (omega arith)
 
   -- the exact value is no larger than the whole number and the distance
   pub within-size : (B X : ℕ) → 0 < S → natAbs c ≤ B → B * S + E ≤ X * S → natAbs n ≤ X * d

@@ -29,6 +29,11 @@ pub ≤ℤ-<ℤ-trans : {a b c : ℤ} → a ≤ℤ b → b <ℤ c → a <ℤ c
     let A = is-parts a in let B = is-parts b in let C = is-parts c in
     is-lt A C (omega (arith, of-le A B h, of-lt B C k))
 
+pub <ℤ-≤ℤ : {a b : ℤ} → a <ℤ b → a ≤ℤ b
+<ℤ-≤ℤ {a} {b} h =
+    let A = is-parts a in let B = is-parts b in
+    is-le A B (omega (arith, of-lt A B h))
+
 pub +ℤ-mono : {a b c d : ℤ} → a ≤ℤ b → c ≤ℤ d → (a +ℤ c) ≤ℤ (b +ℤ d)
 +ℤ-mono {a} {b} {c} {d} h k =
     let A = is-parts a in let B = is-parts b in let C = is-parts c in let D = is-parts d in
@@ -72,6 +77,22 @@ nonpositive {a} h = is-le (is-parts a) (is-nat 0) (omega (arith, of-lt (is-parts
 
 pub nonpositive-scale : (n : ℕ) {a : ℤ} → a ≤ℤ pos 0 → (a *ℤ pos n) ≤ℤ pos 0
 nonpositive-scale n {a} h = subst (λ (z : ℤ). (a *ℤ pos n) ≤ℤ z) (zero-*ℤ (pos n)) (scale-mono n h)
+
+-- z, or 0 where z is below 0
+abbrev pub raised : ℤ → ℤ
+raised z = pos (up z)
+
+pub raised-from-0 : {z : ℤ} → pos 0 ≤ℤ z → raised z ≡ z
+raised-from-0 {z = pos k} h = refl
+raised-from-0 {z = negsuc k} h = absurd (h .le)
+
+pub raised-to-0 : {z : ℤ} → z ≤ℤ pos 0 → raised z ≡ pos 0
+raised-to-0 {z = pos k} h = is-eq (is-nat k) (is-nat 0) (omega (arith, of-le (is-nat k) (is-nat 0) h))
+raised-to-0 {z = negsuc k} h = refl
+
+pub raised-size : (z : ℤ) → natAbs (raised z) ≤ natAbs z
+raised-size (pos k) = omega arith
+raised-size (negsuc k) = omega arith
 
 -- ---- size
 pub abs-neg : (z : ℤ) → natAbs (negℤ z) ≡ natAbs z

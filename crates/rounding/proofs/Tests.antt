@@ -1,13 +1,13 @@
 -- What a test of order on integers says, held or failed, and how a fact settles it; and a test that a call answered. Assumes nothing.
 use mathlib.Core.Path.{_≡_, refl, sym, subst, _∙_}
 use mathlib.Core.Bool.{Bool, true, false, not}
-use Prim.Native.Nat.{ℕ, _≤_}
+use Prim.Native.Nat.{ℕ, _+_, _≤_, _<_}
 use native.Mathlib.Omega.{arith}
 use lib.Dec.{T}
 use borrow.Author.Tests.{not-true, not-false}
 use lib.IntN.{ℤ, pos, natAbs}
 use lib.Signed.{ltZ, leZ, _≤ℤ_, _<ℤ_, leZ-yes, ltZ-yes, ltZ-no, clashℤ}
-use Rattle.rounding.proofs.Difference.{is-nat, is-parts, of-le, abs-le}
+use Rattle.rounding.proofs.Difference.{is-nat, is-parts, up, down, of-le, abs-le, of-abs-le}
 
 holds : (b : Bool) → b ≡ true → T b
 holds true e = tt
@@ -66,8 +66,11 @@ answered-no {answer} e h = sym e ∙ not-true answer h
 pub answered-yes : {answer test : Bool} → answer ≡ test → not answer ≡ false → test ≡ true
 answered-yes {answer} e h = sym e ∙ not-false answer h
 
--- from 0 to n
-pub size-of : {z : ℤ} {n : ℕ} → pos 0 ≤ℤ z → z ≤ℤ pos n → natAbs z ≤ n
-size-of {z} {n} l h =
-    let p = of-le (is-nat 0) (is-parts z) l in let q = of-le (is-parts z) (is-nat n) h in
-    abs-le n (is-parts z) (omega arith) (omega arith)
+-- a number from one that is at most n in size up to n
+pub size-between : {l z : ℤ} {n : ℕ} → natAbs l ≤ n → l ≤ℤ z → z ≤ℤ pos n → natAbs z ≤ n
+size-between {l} {z} {n} s h k =
+    let o = of-abs-le n (is-parts l) s in let p = of-le (is-parts l) (is-parts z) h in let q = of-le (is-parts z) (is-nat n) k in
+    abs-le n (is-parts z) (omega arith) (core (up l) (down l) (up z) (down z) (o .1) p)
+  where
+    core : (a b x y : ℕ) → b ≤ a + n → a + y ≤ x + b → y ≤ x + n
+    core a b x y f g = omega arith

@@ -62,6 +62,14 @@ pub fn above(a: i64, n: u64) -> bool
     positive(n) < a
 }
 
+// Whether a is less than −n.
+pub fn below(a: i64, n: u64) -> bool
+    requires { ⌜ n ≤ 9000000000000000000 ⌝ }
+    ensures { λ r. ⌜ r ≡ ltZ a (negℤ (pos n)) ⌝ }
+{
+    a < negative(n)
+}
+
 // Whether a is n or more.
 pub fn at_least(a: i64, n: u64) -> bool
     requires { ⌜ n ≤ 9000000000000000000 ⌝ }

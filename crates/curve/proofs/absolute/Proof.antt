@@ -9,11 +9,12 @@ use mir.Syntax.{w64}
 use mir.Val.{SFits}
 use lib.IntN.{pos}
 use lib.Signed.{ltZ, leZ}
-use Rattle.rounding.proofs.Tests.{lt-false, size-of}
+use Rattle.rounding.proofs.Tests.{lt-false, size-between}
 use Rattle.curve.specs.declared.Reading.the-variants.{Value}
 use Rattle.curve.specs.Curve.{reducedOf, wetOf}
-use Rattle.curve.specs.Absolute.{absoluteOf}
-use Rattle.curve.proofs.Order.{reduced-nonnegative}
+use Rattle.curve.specs.Absolute.{lowestSignal, absoluteOf}
+use Rattle.curve.proofs.Order.{reduced-mono}
+use Rattle.curve.proofs.Sizes.{lowest-z}
 use Rattle.curve.proofs.absolute.Statement.{statement}
 use Rattle.curve.proofs.absolute.Tie as tie
 
@@ -28,19 +29,19 @@ abbrev of-c : tie.After-wet → tie.Start
 of-c c = of-z (c .before .before .before)
 
 -- each test, in the parameters' terms
-below : (c : tie.After-below-zero) → ltZ (c .before .args .v) (pos 0) ≡ c .below-zero .result
-below c = let fv = c .before .fits .v in sym (simp toZ-ofZ at (c .below-zero .ensures))
+low : (c : tie.After-below) → ltZ (c .before .args .v) lowestSignal ≡ c .below .result
+low c = let fv = c .before .fits .v in sym (simp toZ-ofZ at (c .below .ensures))
 
 returns : tie.Need-returns
 unfolding absoluteOf
-returns c = rw (below (c .before) ∙ c .if1 .taken)
+returns c = rw (low (c .before) ∙ c .if1 .taken)
 
 high : (c : tie.After-above) → ltZ (pos 150000000) (c .before .before .before .args .v) ≡ c .above .result
 high c = let fv = c .before .before .before .fits .v in sym (simp toZ-ofZ at (c .above .ensures))
 
 returns-2 : tie.Need-returns-2
 unfolding absoluteOf
-returns-2 c = rw (below (c .before .before .before) ∙ c .before .before .if1 .left, high (c .before) ∙ c .if2 .taken)
+returns-2 c = rw (low (c .before .before .before) ∙ c .before .before .if1 .left, high (c .before) ∙ c .if2 .taken)
 
 at-least-requires : tie.Need-at-least-requires
 at-least-requires c κs = omega (arith, c .before .before .before .before .pre .0 .k-high)
@@ -52,7 +53,7 @@ returns-3 : tie.Need-returns-3
 unfolding absoluteOf
 returns-3 c =
     let d = c .before .before in
-    rw (below (d .before .before .before) ∙ d .before .before .if1 .left, high (d .before) ∙ d .if2 .left, at-k (c .before) ∙ c .if3 .taken)
+    rw (low (d .before .before .before) ∙ d .before .before .if1 .left, high (d .before) ∙ d .if2 .left, at-k (c .before) ∙ c .if3 .taken)
 
 reduced-requires : tie.Need-reduced-requires
 reduced-requires c κs =
@@ -60,9 +61,9 @@ reduced-requires c κs =
     let s = d .before .before .before .before in
     let v = s .args .v in
     let fv = s .fits .v in
-    let low = lt-false v (pos 0) (below (d .before .before .before) ∙ d .before .before .if1 .left) in
+    let bottom = lt-false v lowestSignal (low (d .before .before .before) ∙ d .before .before .if1 .left) in
     let top = lt-false (pos 150000000) v (high (d .before) ∙ d .if2 .left) in
-    simp toZ-ofZ (size-of low top, s .pre .1)
+    simp toZ-ofZ (size-between (omega arith) bottom top, s .pre .1)
 
 z-is : (c : tie.After-reduced) → c .reduced .result ≡ reducedOf (of-z c .args .v) (of-z c .args .a)
 z-is c = let fv = of-z c .fits .v in simp toZ-ofZ at (c .reduced .ensures)
@@ -74,8 +75,8 @@ z-high c =
 
 -- the tests that are passed where z is known
 module _ (c : tie.After-above2) where
-  below-at : ltZ (of-z (c .before) .args .v) (pos 0) ≡ false
-  below-at = let d = c .before .before .before .before in below (d .before .before .before) ∙ d .before .before .if1 .left
+  below-at : ltZ (of-z (c .before) .args .v) lowestSignal ≡ false
+  below-at = let d = c .before .before .before .before in low (d .before .before .before) ∙ d .before .before .if1 .left
 
   high-at : ltZ (pos 150000000) (of-z (c .before) .args .v) ≡ false
   high-at = let d = c .before .before .before .before in high (d .before) ∙ d .if2 .left
@@ -91,13 +92,16 @@ wet-requires : tie.Need-wet-requires
 wet-requires c κs =
     let d = c .before in
     let s = of-z (d .before) in
+    let fv = s .fits .v in
     let fz : SFits w64 (d .before .reduced .result) = search needs in
-    let low = reduced-nonnegative (s .args .a) (s .pre .1) (lt-false (s .args .v) (pos 0) (below-at d)) in
+    let bottom = reduced-mono (s .args .a) (s .pre .1) (lt-false (s .args .v) lowestSignal (below-at d)) in
+    let size = lowest-z (s .args .s) (s .args .a) (s .pre .0) (s .pre .1) in
     let top = lt-false (pos 100000000) (reducedOf (s .args .v) (s .args .a)) (z-high d ∙ c .if4 .left) in
-    simp toZ-ofZ (s .pre .0, rw (z-is (d .before)) (size-of low top), s .pre .1)
+    simp toZ-ofZ (s .pre .0, rw (z-is (d .before)) (size-between (omega arith) bottom top), s .pre .1)
 
-c-is : (c : tie.After-wet) → let p = of-c c .args in c .wet .result ≡ wetOf (p .s) (reducedOf (p .v) (p .a)) (p .a)
+c-is : (c : tie.After-wet) → let p = of-c c .args in c .wet .result ≡ wetOf (p .s) (p .v) (reducedOf (p .v) (p .a)) (p .a)
 c-is c =
+    let fv = of-c c .fits .v in
     let fz : SFits w64 (c .before .before .before .reduced .result) = search needs in
     rw (z-is (c .before .before .before)) at (simp toZ-ofZ at (c .wet .ensures))
 

@@ -83,7 +83,7 @@ enum irga_refusal {
     IRGA_NO_SPAN = 5,              /* no span serves, or one below the lowest would */
     IRGA_INPUT_LIMITS = 6,         /* raw signal, pressure, temperature or vapour pressure
                                       outside its limits, the reference gas's included */
-    IRGA_BELOW_ZERO = 7,           /* the signal is below zero */
+    IRGA_BELOW_ZERO = 7,           /* the signal is below -2,000,000 */
     IRGA_OVER_RANGE = 8,           /* the signal or the mole fraction is over range */
     IRGA_NO_REFERENCE_SIGNAL = 9,  /* no signal reads the reference cylinder */
     IRGA_NOT_NOW = 10,             /* the event does not fit the mode or the integration */
@@ -134,7 +134,8 @@ uint8_t irga_lines(const uint8_t *file, size_t file_length,
  *
  * answer, answer_length   an answer of irga_run; of more than 24 bytes the first 24 count
  * wet, dry                get the mole fractions of CO2 in the moist air and in the air
- *                         without its water vapour, in pmol/mol
+ *                         without its water vapour, in pmol/mol; below 0 for a signal
+ *                         below zero, as the noise of zero gas has them
  * signal                  gets the reference signal in 100 nV, 0 in absolute mode
  *
  * Returns IRGA_ACCEPTED; or the refusal that the answer holds, whatever its kind; or

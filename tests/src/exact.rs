@@ -43,6 +43,10 @@ impl Fraction {
         &self.upper * &other.lower == &other.upper * &self.lower
     }
 
+    pub fn is_negative(&self) -> bool {
+        self.upper.is_negative()
+    }
+
     /// Whether this value is farther from 0 than another.
     pub fn is_farther_than(&self, other: &Fraction) -> bool {
         &self.upper.magnitude() * &other.lower > &other.upper.magnitude() * &self.lower
@@ -137,17 +141,18 @@ const TEN_TO_7: i128 = 10_000_000;
 
 /// Equation (11) at a signal: C = χ F(V P0/(P χ)) T/T0 with χ = D/(100 P), in
 /// pmol/mol. With z = n/d the cubic is n (A1 d² 10^14 + A2 n d 10^7 + A3 n²) over
-/// d³ 10^21: one pair, without the lower numbers that a sum of terms would pile up.
+/// d³ 10^21: one pair, without the lower numbers that a sum of terms would pile up. Below
+/// a signal of zero F is the straight line a1 Z.
 pub fn equation_11(sheet: &Sheet, air: &Air, signal: &Fraction) -> Fraction {
     let whole = |number: i64| Big::from(i128::from(number));
     let broadened = whole(air.broadened());
     let n = &signal.upper * &whole(100 * P0);
     let d = &signal.lower * &broadened;
     let a1 = Big::from(i128::from(sheet.a1) * TEN_TO_7 * TEN_TO_7);
-    // Below zero the line a1 Z alone.
-    let below = signal.upper.is_negative();
-    let a2 = Big::from(if below { 0 } else { i128::from(sheet.a2) * TEN_TO_7 });
-    let a3 = Big::from(if below { 0 } else { i128::from(sheet.a3) });
+    // Below zero the straight line a1 Z: the square and the cube have no part in it.
+    let (square, cube) = if signal.is_negative() { (0, 0) } else { (sheet.a2, sheet.a3) };
+    let a2 = Big::from(i128::from(square) * TEN_TO_7);
+    let a3 = whole(cube);
     let linear_and_square = &(&(&a1 * &d) + &(&a2 * &n)) * &d;
     let cubic = &(&a3 * &n) * &n;
     let upper = &n * &(&linear_and_square + &cubic);
@@ -192,7 +197,8 @@ mod tests {
         let a3 = Fraction::of(i128::from(sheet.a3), 10i128.pow(15));
         let square = z.times(&z);
         let line = a1.times(&z);
-        let curve = if signal.upper.is_negative() { line } else { line.plus(&a2.times(&square)).plus(&a3.times(&square).times(&z)) };
+        let cubic = line.plus(&a2.times(&square)).plus(&a3.times(&square).times(&z));
+        let curve = if signal.upper.is_negative() { line } else { cubic };
         let warmth = Fraction::of(i128::from(air.t), i128::from(sheet.t0));
         curve.times(&chi).times(&warmth).times(&Fraction::whole(1_000_000))
     }

@@ -139,6 +139,40 @@ fn printed(sheets: &[SheetRecord], events: &[Event]) -> String {
     text
 }
 
+/// Document 02's R-1: noise around zero is read down to −2,000,000. On the bench sheet z is V
+/// and the line is 15 V. Against the bench cylinder the signal is 40,000,000 + V − V / 5, so
+/// raw −52,500,000 is the lowest that is read; with R 0 it is V.
+#[test]
+fn around_zero_through_the_program() {
+    let nothing = Event::Reference { cylinder: 0, e: 0 };
+    let read = [-1, -2_000_000, -2_000_001].map(sample);
+    let against = [-50_000_000, -50_000_001, -52_500_000, -52_500_001].map(sample);
+    let events = [&[LOAD][..], &read, &[nothing], &read, &[REFERENCE], &against].concat();
+    let expected = "1 1 0 0 0 0\n\
+                    2 6 0 0 -15 -15\n\
+                    3 6 0 0 -30000000 -30000000\n\
+                    4 6 7 0 0 0\n\
+                    5 4 0 0 0 0\n\
+                    6 6 0 0 -15 -15\n\
+                    7 6 0 0 -30000000 -30000000\n\
+                    8 6 7 0 0 0\n\
+                    9 4 0 0 0 0\n\
+                    10 6 0 40000000 0 0\n\
+                    11 6 0 40000000 -15 -15\n\
+                    12 6 0 40000000 -30000000 -30000000\n\
+                    13 6 7 0 0 0\n";
+    assert_eq!(printed(&[bench::sheet()], &events), expected);
+}
+
+/// An integration of noise: a mean above nothing where negatives were refused, and none now.
+#[test]
+fn noise_cancels() {
+    let noise = [-3, 2, -1, 4, -2].map(sample);
+    let events = [&[LOAD, Event::Start][..], &noise, &[Event::Area]].concat();
+    // 2 × 15 × (−3 + 2 − 1 + 4 − 2) − 4 × 15 × (−3 − 2).
+    assert_eq!(last_answer(&[bench::sheet()], &events), accepted(9, 5, 300, 0));
+}
+
 /// The cases that no theorem has, in one session.
 #[test]
 fn cases_without_a_star() {

@@ -56,10 +56,12 @@ fn header_stands_alone_in_c_and_in_cpp() {
 /// found elsewhere.
 #[test]
 fn archive_asks_for_nothing() {
-    let output = Command::new("nm").args(["-u", env!("IRGA_ARCHIVE")]).output().expect("nm can be started");
+    let output =
+        Command::new("nm").args(["-u", env!("IRGA_ARCHIVE")]).output().expect("nm can be started");
     assert!(output.status.success(), "nm cannot read {}", env!("IRGA_ARCHIVE"));
     let said = String::from_utf8_lossy(&output.stdout);
-    let asked: Vec<&str> = said.lines().filter(|line| !line.is_empty() && !line.ends_with(':')).collect();
+    let asked: Vec<&str> =
+        said.lines().filter(|line| !line.is_empty() && !line.ends_with(':')).collect();
     assert!(said.contains(".o:") && asked.is_empty(), "{said}");
 }
 

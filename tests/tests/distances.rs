@@ -6,11 +6,13 @@ use std::path::Path;
 use std::time::Instant;
 
 use irga_tests::bench;
-use irga_tests::engine::{step, Answer, Entry, Event, State};
+use irga_tests::engine::{step, Answer, Entry, Event, SheetRecord, State, READINGS_LIMIT};
+use irga_tests::figures::{grouped, in_one_line};
 use irga_tests::file::{self, Session};
 use irga_tests::harness::{Campaign, Count};
 use irga_tests::ledger::{Distances, Ledger};
 use irga_tests::random::Random;
+use irga_tests::rules::{self, Air, Sheet};
 use irga_tests::sessions::{session, PROFILES};
 
 fn campaign(seed: u64) -> Campaign {
@@ -21,6 +23,9 @@ fn print(met: &Distances) {
     println!("wet absolute       {:10.3} of 1,100", met.wet_absolute);
     println!("wet against        {:10.3} of 1,800", met.wet_against);
     println!("dry                {:10.3} of 2,000", met.dry);
+    println!("below zero: wet absolute {:10.3}", met.wet_absolute_below_zero);
+    println!("            wet against  {:10.3}", met.wet_against_below_zero);
+    println!("            dry          {:10.3}", met.dry_below_zero);
     println!("area, of allowed   {:10.5} of 1", met.area_share);
     println!("R below cylinder   {:10.3} of 450", met.below_cylinder);
     println!("R - 1 above it     {:10.3} of 450", met.above_cylinder);
@@ -115,6 +120,59 @@ fn an_integration_longer_than_any_file() {
     assert!(areas[1..].iter().all(|area| *area == areas[1]), "closed at 600,000");
     assert_eq!(feed(Event::Stop).refusal, 10);
     print(&met);
+}
+
+/// The steepest line, in the warmest and thinnest air: a higher P, a lower T or A1 or a
+/// higher T0 moves the wet value of the lowest signal up by more than the rounding of z can
+/// move it down, so only e is left to try.
+fn lowest_wet_value() -> (Sheet, Air, i64) {
+    let sheet = Sheet { a1: 1_000_000_000, a2: 0, a3: 0, t0: 27_315, k: 400_000_000 };
+    let airs = (0..=6_000).map(|e| Air { p: 60_000, t: 32_315, e });
+    let wet = |air: &Air| rules::absolute_reading(&sheet, air, rules::LOWEST_SIGNAL).unwrap();
+    let lowest = airs.min_by_key(wet).expect("some air");
+    (sheet, lowest, wet(&lowest))
+}
+
+/// First and last reading as low as they go and all others nearly as high: such an area is
+/// above document 01's 3.6 × 10^15, below what docs/DECISIONS.md says, and far below 2^53.
+#[test]
+fn the_largest_area() {
+    let (sheet, low_air, lowest) = lowest_wet_value();
+    let (a1, t0, k) = (sheet.a1 as i32, sheet.t0 as u32, sheet.k as u32);
+    let sheets = [SheetRecord { a1, a2: 0, a3: 0, t0, k, rest: 0 }];
+    let over = |v: i64| rules::absolute_reading(&sheet, &low_air, v).is_err();
+    let top = rules::first_from(0, rules::SIGNAL_LIMIT, over).expect("an end of the range") - 1;
+    let Air { p, t, e } = low_air;
+    let sample =
+        |raw: i64| Event::Sample { raw: raw as i32, p: p as u32, t: t as u32, e: e as u32 };
+    let mut state = State::fresh();
+    let mut feed = |event: Event| {
+        let (answer, next) = step(&sheets, &state, &Entry::Known(event));
+        state = next;
+        assert_eq!(answer.refusal, 0, "{event:?}");
+        answer
+    };
+    feed(Event::Load { index: 0 });
+    feed(Event::Start);
+    assert_eq!(feed(sample(rules::LOWEST_SIGNAL)).x, lowest);
+    for _ in 2..READINGS_LIMIT {
+        feed(sample(top));
+    }
+    feed(sample(rules::LOWEST_SIGNAL));
+    let Answer { m, x: area, .. } = feed(Event::Area);
+    let n = i128::from(READINGS_LIMIT);
+    assert_eq!(i128::from(m), n);
+    let (low, high) = (i128::from(lowest), i128::from(rules::WET_LIMIT));
+    let most = 2 * (high * (n - 2) + 2 * low) - (n - 1) * 2 * low;
+    println!("lowest wet value {lowest}, largest area {area}, at most {most}");
+    assert!(i128::from(area) <= most && most <= 4_080_000_000_000_000);
+    assert!(area >= 4_079_000_000_000_000);
+    let page = in_one_line(include_str!("../../docs/DECISIONS.md"));
+    for figure in
+        [format!("go down to −{} now", grouped(&(-lowest).to_string())), grouped(&most.to_string())]
+    {
+        assert!(page.contains(&figure), "docs/DECISIONS.md does not say {figure}");
+    }
 }
 
 /// A series against a reference gas in changing rooms, read after every sample.

@@ -289,6 +289,16 @@ fn limits_of_room_and_signal() {
     assert_limits("| signal | raw of a span or a sample ", rules::raw_within_limits);
     let zero = |raw: i64| refusal_after_load(Event::Zero { raw: raw as i32 }) != 3;
     assert_limits("150,000,000, of a zero ", zero);
+    let sheet = bench::sheet().accepted().expect("the bench sheet");
+    let read = |v: i64| rules::absolute_reading(&sheet, &bench::AIR, v);
+    let lowest = rules::LOWEST_SIGNAL;
+    assert!(read(lowest).is_ok() && read(lowest - 1) == Err(Refusal::BelowZero));
+    assert_says(&format!("the signal V that is read, at least {} |", minus(lowest)));
+}
+
+/// A number below 0 as README.md writes it.
+fn minus(value: i64) -> String {
+    format!("−{}", number(-value))
 }
 
 #[test]
@@ -357,6 +367,12 @@ fn steps_of_a_reading() {
     let wet = near(g * air.t, sheet.t0);
     assert_eq!(rules::absolute_reading(&sheet, &air, v), Ok(wet));
     assert_eq!(rules::dry_value(wet, &air), near(wet * air.p, air.p - air.e));
+    // Below zero, at the lowest signal.
+    let v = rules::LOWEST_SIGNAL;
+    assert_says(&format!("for V from {} to −1, f = near(z A1 / 10^7),", minus(v)));
+    let f = near(near(10_130_000 * v, d) * sheet.a1, ten_to_7);
+    let wet = near(near(f * d, 100 * air.p) * air.t, sheet.t0);
+    assert_eq!(rules::absolute_reading(&sheet, &air, v), Ok(wet));
 }
 
 fn near(a: i64, b: i64) -> i64 {
@@ -373,7 +389,7 @@ fn refusals_and_their_order() {
         (Refusal::CylinderOutsideRange, "cylinder outside its limits,"),
         (Refusal::NoSpanServes, "no span from"),
         (Refusal::InputOutsideLimits, "of a span or a sample: raw, P, T or e outside its limits;"),
-        (Refusal::BelowZero, "the signal is below zero"),
+        (Refusal::BelowZero, &format!("the signal is below {},", minus(rules::LOWEST_SIGNAL))),
         (Refusal::OverRange, "over range:"),
         (Refusal::NoReferenceSignal, "no signal has an accepted reading of the reference cylinder"),
         (Refusal::NotNow, "span against a reference;"),

@@ -3,7 +3,8 @@
 
 use std::sync::OnceLock;
 
-use irga_tests::engine::{step, Entry, Event, Mode, State};
+use irga_tests::engine::{step, Answer, Entry, Event, Mode, State};
+use irga_tests::exact::{self, Fraction};
 use irga_tests::file::{self, EventRecord, Session};
 use irga_tests::hostile;
 use irga_tests::rules::{self, Air};
@@ -63,18 +64,42 @@ fn every_kind_with_a_raw_signal_meets_its_highest_bit() {
     }
 }
 
+/// The signal at which a sample is read, rounded and exact.
+fn signals(state: &State, raw: i64, air: &Air) -> (i64, Fraction) {
+    let sheet = state.sheet.expect("a loaded sheet");
+    let v = rules::signal_from_raw(raw, state.q, state.s);
+    let exact_v = exact::signal_from_raw(raw, state.q, state.s);
+    match state.mode {
+        Mode::Absolute => (v, exact_v),
+        Mode::Reference { cylinder, e } => {
+            let r = rules::reference_signal(&sheet, cylinder, &air.with_vapour(e));
+            let r = r.expect("a reference signal");
+            let exact_signal = exact::signal_against(&exact_v, r, sheet.k);
+            (rules::signal_against(v, r, sheet.k), exact_signal)
+        }
+    }
+}
+
+/// Walks a session and hands on each sample that was read or refused for its signal, with
+/// 7 or 8: the state before it, its raw signal and air, and its answer.
+fn each_sample(session: &Session, mut hand_on: impl FnMut(&State, i64, &Air, &Answer)) {
+    let mut state = State::fresh();
+    for record in &session.events {
+        let entry = record.entry();
+        let (answer, next) = step(&session.sheets, &state, &entry);
+        if let (0 | 7 | 8, Entry::Known(Event::Sample { raw, p, t, e })) = (answer.refusal, entry) {
+            let air = Air { p: i64::from(p), t: i64::from(t), e: i64::from(e) };
+            hand_on(&state, i64::from(raw), &air, &answer);
+        }
+        state = next;
+    }
+}
+
 /// The four grounds of refusal 8 in document 01's order, at the signal of a sample that was
 /// refused with it.
 fn grounds(state: &State, raw: i64, air: &Air) -> [bool; 4] {
     let sheet = state.sheet.expect("a loaded sheet");
-    let v = rules::signal_from_raw(raw, state.q, state.s);
-    let signal = match state.mode {
-        Mode::Absolute => v,
-        Mode::Reference { cylinder, e } => {
-            let r = rules::reference_signal(&sheet, cylinder, &air.with_vapour(e));
-            rules::signal_against(v, r.expect("a reference signal"), sheet.k)
-        }
-    };
+    let (signal, _) = signals(state, raw, air);
     let steps = rules::steps(&sheet, air, signal);
     [
         signal > rules::SIGNAL_LIMIT,
@@ -87,19 +112,14 @@ fn grounds(state: &State, raw: i64, air: &Air) -> [bool; 4] {
 /// Walks a session and counts its refusals with 8, by the first ground that applies and by
 /// the ground that applies alone.
 fn count_grounds(session: &Session, first: &mut [u32; 4], alone: &mut [u32; 4]) {
-    let mut state = State::fresh();
-    for record in &session.events {
-        let entry = record.entry();
-        let (answer, next) = step(&session.sheets, &state, &entry);
-        if let (8, Entry::Known(Event::Sample { raw, p, t, e })) = (answer.refusal, entry) {
-            let air = Air { p: i64::from(p), t: i64::from(t), e: i64::from(e) };
-            let grounds = grounds(&state, i64::from(raw), &air);
+    each_sample(session, |state, raw, air, answer| {
+        if answer.refusal == 8 {
+            let grounds = grounds(state, raw, air);
             let at = grounds.iter().position(|ground| *ground).expect("a ground for refusal 8");
             first[at] += 1;
             alone[at] += u32::from(grounds.iter().filter(|ground| **ground).count() == 1);
         }
-        state = next;
-    }
+    });
 }
 
 /// A fair share is a quarter. A signal above 150,000,000 never stands alone: its z is above
@@ -113,6 +133,76 @@ fn refusal_8_by_each_of_its_grounds() {
     assert!(all >= 2_000);
     assert!(first.iter().all(|count| 6 * count >= all), "{first:?} of {all}");
     assert!(alone[1..].iter().all(|count| 6 * count >= all), "{alone:?} of {all}");
+}
+
+/// Samples at signals around zero, in one mode.
+#[derive(Debug, Default)]
+struct AroundZero {
+    /// Read by the straight line, and among them those at its lowest signal.
+    read: u32,
+    lowest: u32,
+    /// Refused with 7, and among them those one below the lowest signal.
+    refused: u32,
+    one_below: u32,
+    /// The exact signal below zero, and the rounded one not.
+    seam: u32,
+}
+
+impl AroundZero {
+    fn add(&mut self, signal: i64, exact_signal: &Fraction, answer: &Answer) {
+        let accepted = answer.refusal == 0;
+        // Document 02's R-1, of every sample: 7 exactly below the lowest signal, and the
+        // sign of the reading that of its signal, or 0.
+        assert_eq!(answer.refusal == 7, signal < rules::LOWEST_SIGNAL);
+        assert!(!accepted || answer.x == 0 || (answer.x < 0) == (signal < 0));
+        self.read += u32::from(accepted && signal < 0);
+        self.lowest += u32::from(accepted && signal == rules::LOWEST_SIGNAL);
+        self.refused += u32::from(answer.refusal == 7);
+        self.one_below += u32::from(signal == rules::LOWEST_SIGNAL - 1);
+        self.seam += u32::from(exact_signal.is_negative() && signal >= 0);
+        // Never the other way: a rounded signal is less than 1 below the exact one.
+        assert!(exact_signal.is_negative() || signal >= 0);
+    }
+}
+
+/// Both modes on the line, at its lowest signal, one below it, and at the seam.
+#[test]
+fn signals_around_zero() {
+    let (mut absolute, mut against) = (AroundZero::default(), AroundZero::default());
+    for session in sound() {
+        each_sample(&session, |state, raw, air, answer| {
+            let (signal, exact_signal) = signals(state, raw, air);
+            let absolutely = state.mode == Mode::Absolute;
+            let met = if absolutely { &mut absolute } else { &mut against };
+            met.add(signal, &exact_signal, answer);
+        });
+    }
+    println!("around zero in absolute mode: {absolute:?}");
+    println!("around zero against a reference: {against:?}");
+    for met in [&absolute, &against] {
+        assert!(met.read >= 1_500 && met.refused >= 50, "{met:?}");
+        assert!(met.lowest >= 100 && met.one_below >= 50 && met.seam >= 50, "{met:?}");
+    }
+}
+
+/// Areas of readings on both sides of zero, whose sum can cancel.
+#[test]
+fn areas_across_zero() {
+    let mut across = 0;
+    for session in sound() {
+        let (mut runs, mut low, mut high) = (false, 0, 0);
+        for Answer { kind, refusal, x, .. } in session.answers() {
+            match (kind, refusal) {
+                (7, 0) => (runs, low, high) = (true, 0, 0),
+                (6, 0) if runs => (low, high) = (low.min(x), high.max(x)),
+                (1..=5 | 8, 0) | (6, _) => runs = false,
+                (9, 0) => across += u32::from(low < 0 && 0 < high),
+                _ => {}
+            }
+        }
+    }
+    println!("areas of readings on both sides of zero: {across}");
+    assert!(across >= 1_000, "{across}");
 }
 
 #[test]

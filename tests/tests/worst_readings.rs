@@ -1,6 +1,7 @@
 //! The named readings with large errors, each run again and its error computed again
 //! in exact fractions. An allowed distance below one of them would be broken by it.
 
+use irga_tests::exact::Fraction;
 use irga_tests::file::{EventRecord, Session};
 use irga_tests::ledger::check_list;
 use irga_tests::worst::{climb, Kind, Reading, KINDS};
@@ -14,14 +15,19 @@ fn blocks() -> Vec<&'static str> {
 /// The bounds that the must-fail edits of `crates/exact` and `crates/ledger` try, in
 /// pmol/mol. Each is below the error of the reading that the edit names: a bound that
 /// no reading broke would be refused for want of a proof and not because it is false.
-fn tried(kind: Kind) -> i128 {
-    match kind {
-        Kind::WetAbsolute => 248,
-        Kind::WetAgainst => 401,
-        Kind::Dry => 443,
-        Kind::AtReference => 115,
-        Kind::BelowReference => 114,
-    }
+const TRIED: [(Kind, i128); 5] = [
+    (Kind::WetAbsolute, 248),
+    (Kind::WetAgainst, 401),
+    (Kind::Dry, 443),
+    (Kind::AtReference, 115),
+    (Kind::BelowReference, 114),
+];
+
+/// The named reading of a kind, with its error.
+fn error_of(kind: Kind) -> Fraction {
+    let mut named = blocks().into_iter().filter_map(Reading::parse);
+    let reading = named.find(|reading| reading.kind == kind);
+    reading.expect("a reading of every kind").replay().unwrap().1
 }
 
 #[test]
@@ -37,12 +43,34 @@ fn every_block_says_what_the_engine_and_the_fractions_say() {
 
 #[test]
 fn every_bound_that_an_edit_tries_is_broken() {
-    for kind in KINDS {
-        let named = blocks().into_iter().filter_map(Reading::parse);
-        let reading = named.into_iter().find(|reading| reading.kind == kind);
-        let (_, error) = reading.expect("a reading of every kind").replay().unwrap();
-        assert!(!error.within(0, tried(kind)), "{kind:?}");
+    for (kind, bound) in TRIED {
+        assert!(!error_of(kind).within(0, bound), "{kind:?}");
     }
+}
+
+/// The cells of a row of the page's table, the largest error of one kind or of two.
+#[test]
+fn the_page_on_errors_quotes_them() {
+    let page = include_str!("../../docs/ERRORS.md");
+    let rows = [
+        ("| equation (11) at R and R − 1,", Kind::AtReference, None),
+        ("| wet, absolute (k = 1)", Kind::WetAbsolute, Some(Kind::WetAbsoluteBelowZero)),
+        ("| wet, against a reference (k = 2)", Kind::WetAgainst, Some(Kind::WetAgainstBelowZero)),
+        ("| dry, either mode", Kind::Dry, Some(Kind::DryBelowZero)),
+    ];
+    for (begin, above, below) in rows {
+        let row = page.lines().find(|line| line.starts_with(begin));
+        let row = row.unwrap_or_else(|| panic!("docs/ERRORS.md has no row {begin}"));
+        let cells: Vec<&str> = row.trim_matches('|').split('|').map(str::trim).collect();
+        let quoted = |kind: Kind| hundredths(&error_of(kind));
+        let expected = [quoted(above), below.map_or(String::new(), quoted)];
+        assert_eq!(cells[cells.len() - 2..], expected, "{row}");
+    }
+}
+
+/// The size of an error, cut after two decimals.
+fn hundredths(error: &Fraction) -> String {
+    error.decimal(2).trim_start_matches('-').to_string()
 }
 
 /// The named readings keep within demand 3 all the same.

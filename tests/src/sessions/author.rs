@@ -184,6 +184,20 @@ impl<'a> Author<'a> {
         }
     }
 
+    /// A signal around zero or below it, and how far beside its raw signal to go: next to zero
+    /// the exact signal and the rounded one can stand on either side of it.
+    fn around_zero(&mut self) -> (i64, i64) {
+        let lowest = rules::LOWEST_SIGNAL;
+        if self.edge() {
+            return (self.random.pick(&[lowest, lowest, lowest - 1, lowest + 1]), 0);
+        }
+        match self.random.below(4) {
+            0 => (self.random.between(lowest, -1), 0),
+            1 => (self.random.between(-2_000, 2_000), 0),
+            _ => (self.random.between(-2, 1), self.random.between(-1, 1)),
+        }
+    }
+
     /// The raw signal that is read at this signal or nearly so, in the mode that stands;
     /// nothing if there is no reference signal.
     fn raw_of(&self, sheet: &Sheet, air: &Air, target: i64) -> Option<i64> {
@@ -224,13 +238,15 @@ impl<'a> Author<'a> {
 
     /// A raw signal that is read at the signal aimed at, as far as raw goes.
     fn aimed_raw(&mut self, sheet: &Sheet, air: &Air) -> i64 {
-        let target = if self.random.percent(self.profile.over) {
-            self.over_range(sheet, air)
+        let (target, beside) = if self.random.percent(self.profile.over) {
+            (self.over_range(sheet, air), 0)
+        } else if self.random.percent(self.profile.below) {
+            self.around_zero()
         } else {
-            self.target(sheet, air)
+            (self.target(sheet, air), 0)
         };
         match self.raw_of(sheet, air, target) {
-            Some(raw) => self.held(raw),
+            Some(raw) => self.held(raw + beside),
             None => self.any_raw(),
         }
     }
@@ -242,6 +258,7 @@ impl<'a> Author<'a> {
         if let Some(sheet) = self.state.sheet.filter(|_| air.within_limits()) {
             let v = self.target(&sheet, &air).max(1);
             let s = self.random.between(rules::SPAN_LOWEST, rules::SPAN_HIGHEST);
+            let s = if self.random.percent(self.profile.below) { rules::SPAN_LOWEST } else { s };
             let s = if self.edge() { self.random.pick(&[500_000, 2_000_000]) } else { s };
             raw = self.held(self.state.q + v * rules::SPAN_UNIT / s);
             let signal = rules::signal_from_raw(raw, self.state.q, s);
@@ -262,9 +279,13 @@ impl<'a> Author<'a> {
         let mut e = self.random.pick(&[0, 0, 1]) * self.random.between(0, lowest_p / 10);
         let mut cylinder = self.random.between(0, limit);
         if let Some(sheet) = self.state.sheet.filter(|_| air.within_limits()) {
-            let v = self.target(&sheet, &air.with_vapour(e));
+            let v = if self.random.percent(self.profile.below) {
+                self.random.between(0, 20)
+            } else {
+                self.target(&sheet, &air.with_vapour(e))
+            };
             let reading = rules::absolute_reading(&sheet, &air.with_vapour(e), v);
-            cylinder = reading.unwrap_or(limit);
+            cylinder = reading.unwrap_or(limit).max(0);
         }
         if self.edge() {
             e = self.random.pick(&[vapour_limit, vapour_limit + 1, air.p / 10, air.p / 10 + 1]);

@@ -1,6 +1,7 @@
 //! Invented sessions: lessons as a class would give them, the limits and one beside
-//! them, signals over range by every ground, hostile kinds, padding and fields, damaged
-//! headers and lengths, long integrations, and lists with hardly an accepted event.
+//! them, signals over range by every ground, noise around zero, hostile kinds, padding and
+//! fields, damaged headers and lengths, long integrations, and lists with hardly an
+//! accepted event.
 
 mod author;
 mod damage;
@@ -22,6 +23,9 @@ pub struct Profile {
     edge: u64,
     /// A sample's signal is over range.
     over: u64,
+    /// A sample's signal is around zero or below it; a reference gas has next to nothing, and a
+    /// span is the lowest, under which one raw unit is half a unit of signal.
+    below: u64,
     /// An event of any kind stands where a lesson would have another.
     stray: u64,
     /// A number is any that its field can hold.
@@ -39,15 +43,17 @@ const LESSON: Profile = Profile {
     longest: 60,
     edge: 2,
     over: 1,
+    below: 6,
     stray: 3,
     wild: 0,
     spoilt: 0,
     damaged: 0,
 };
 
-pub const PROFILES: [Profile; 7] = [
+pub const PROFILES: [Profile; 8] = [
     LESSON,
     Profile { name: "limits", weight: 24, edge: 30, over: 12, stray: 8, wild: 1, ..LESSON },
+    Profile { name: "zero gas", weight: 12, edge: 20, over: 0, below: 80, ..LESSON },
     Profile {
         name: "hostile",
         weight: 12,

@@ -20,14 +20,26 @@ pub enum Kind {
     WetAgainst,
     /// The dry value.
     Dry,
+    /// The same three at an exact signal below zero.
+    WetAbsoluteBelowZero,
+    WetAgainstBelowZero,
+    DryBelowZero,
     /// The cylinder above equation (11) at R.
     AtReference,
     /// Equation (11) at R − 1 above the cylinder.
     BelowReference,
 }
 
-pub const KINDS: [Kind; 5] =
-    [Kind::WetAbsolute, Kind::WetAgainst, Kind::Dry, Kind::AtReference, Kind::BelowReference];
+pub const KINDS: [Kind; 8] = [
+    Kind::WetAbsolute,
+    Kind::WetAgainst,
+    Kind::Dry,
+    Kind::WetAbsoluteBelowZero,
+    Kind::WetAgainstBelowZero,
+    Kind::DryBelowZero,
+    Kind::AtReference,
+    Kind::BelowReference,
+];
 
 impl Kind {
     pub fn title(self) -> &'static str {
@@ -35,9 +47,29 @@ impl Kind {
             Kind::WetAbsolute => "wet value in absolute mode, less the exact value",
             Kind::WetAgainst => "wet value against a reference, less the exact value",
             Kind::Dry => "dry value, less the exact value times P / (P - e)",
+            Kind::WetAbsoluteBelowZero => {
+                "wet value in absolute mode below zero, less the exact value"
+            }
+            Kind::WetAgainstBelowZero => {
+                "wet value against a reference below zero, less the exact value"
+            }
+            Kind::DryBelowZero => "dry value below zero, less the exact value times P / (P - e)",
             Kind::AtReference => "cylinder, less equation (11) at R",
             Kind::BelowReference => "equation (11) at R - 1, less the cylinder",
         }
+    }
+
+    /// Whether the reading has to be one at an exact signal below zero.
+    pub fn below_zero(self) -> bool {
+        matches!(self, Kind::WetAbsoluteBelowZero | Kind::WetAgainstBelowZero | Kind::DryBelowZero)
+    }
+
+    fn dry(self) -> bool {
+        matches!(self, Kind::Dry | Kind::DryBelowZero)
+    }
+
+    fn absolute(self) -> bool {
+        matches!(self, Kind::WetAbsolute | Kind::WetAbsoluteBelowZero)
     }
 }
 
@@ -93,6 +125,9 @@ impl Reading {
             return Err("the span event sets another S".to_string());
         }
         let answer = answers.last().copied().ok_or("no answer")?;
+        if self.kind.below_zero() && !self.exact_signal(i64::from(answer.m)).is_negative() {
+            return Err("the exact signal is not below zero".to_string());
+        }
         Ok((answer, self.error(&answer)))
     }
 
@@ -107,18 +142,23 @@ impl Reading {
         match self.kind {
             Kind::AtReference => cylinder.minus(&at(r)),
             Kind::BelowReference => at(r - 1).minus(&cylinder),
-            Kind::Dry => whole(answer.y).minus(&exact::dry_value(&self.exact_wet(r), &self.air)),
-            Kind::WetAbsolute | Kind::WetAgainst => whole(answer.x).minus(&self.exact_wet(r)),
+            kind if kind.dry() => {
+                whole(answer.y).minus(&exact::dry_value(&self.exact_wet(r), &self.air))
+            }
+            _ => whole(answer.x).minus(&self.exact_wet(r)),
+        }
+    }
+
+    fn exact_signal(&self, r: i64) -> Fraction {
+        let v = exact::signal_from_raw(self.raw, self.q, self.s);
+        match self.reference {
+            None => v,
+            Some(_) => exact::signal_against(&v, r, self.sheet.k),
         }
     }
 
     fn exact_wet(&self, r: i64) -> Fraction {
-        let v = exact::signal_from_raw(self.raw, self.q, self.s);
-        let signal = match self.reference {
-            None => v,
-            Some(_) => exact::signal_against(&v, r, self.sheet.k),
-        };
-        exact::equation_11(&self.sheet, &self.air, &signal)
+        exact::equation_11(&self.sheet, &self.air, &self.exact_signal(r))
     }
 
     /// The block of this reading: every input, the answer, and the error.

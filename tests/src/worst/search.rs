@@ -1,6 +1,7 @@
 //! A hostile search for large errors. Errors grow with the slope of the curve at the
 //! top of the range, with thin warm air and a cold sheet, so the search starts there
-//! and then climbs: it changes one or two inputs and keeps what errs by more.
+//! and then climbs: it changes one or two inputs and keeps what errs by more. Below zero
+//! the slope is the same everywhere, and it starts at any signal of the line.
 
 use std::time::{Duration, Instant};
 
@@ -29,7 +30,7 @@ fn roughly(sheet: &Sheet, air: &Air, v: f64) -> f64 {
     let d = air.broadened() as f64;
     let z = 10_130_000.0 * v / d;
     let h2 = sheet.a2 as f64 + sheet.a3 as f64 * z / 1e7;
-    let h1 = sheet.a1 as f64 + h2 * z / 1e7;
+    let h1 = sheet.a1 as f64 + if v < 0.0 { 0.0 } else { h2 * z / 1e7 };
     let chi = d / (100.0 * air.p as f64);
     z * h1 / 1e7 * chi * air.t as f64 / sheet.t0 as f64
 }
@@ -58,7 +59,7 @@ impl Try {
     }
 
     fn against(&self) -> bool {
-        self.kind != Kind::WetAbsolute
+        !self.kind.absolute()
     }
 
     /// The error of this try, positive or negative; none if it is refused.
@@ -83,9 +84,12 @@ impl Try {
         } else {
             (v, exact_v)
         };
+        if self.kind.below_zero() && exact_signal >= 0.0 {
+            return None;
+        }
         let wet = rules::absolute_reading(&self.sheet, &self.air, signal).ok()?;
         let exact_wet = roughly(&self.sheet, &self.air, exact_signal);
-        if self.kind != Kind::Dry {
+        if !self.kind.dry() {
             return Some(wet as f64 - exact_wet);
         }
         let dry = rules::dry_value(wet, &self.air) as f64;
@@ -125,12 +129,20 @@ impl Try {
         self
     }
 
-    /// Moves the sample, or R where R is what counts, to just below the top of the
-    /// range: there the curve is steepest.
-    fn to_the_top(mut self, random: &mut Random) -> Try {
+    /// A signal just below the top of the range, where the curve is steepest, or any one of
+    /// the line.
+    fn steepest(&self, random: &mut Random) -> i64 {
+        if self.kind.below_zero() {
+            return random.between(rules::LOWEST_SIGNAL, -1);
+        }
         let over = |v: i64| rules::absolute_reading(&self.sheet, &self.air, v).is_err();
         let top = rules::first_from(0, rules::SIGNAL_LIMIT + 1, over).unwrap_or(1) - 1;
-        let target = top - step(random, 14).abs();
+        top - step(random, 14).abs()
+    }
+
+    /// Moves the sample, or R where R is what counts, to a signal where errors are large.
+    fn to_the_steepest(mut self, random: &mut Random) -> Try {
+        let target = self.steepest(random);
         if self.bracket() {
             self.r = target;
         } else {
@@ -249,7 +261,7 @@ fn start(random: &mut Random, kind: Kind) -> Try {
     let some = random.between(rules::SPAN_LOWEST, rules::SPAN_HIGHEST);
     let s = random.pick(&[500_000, 1_500_000, some]);
     let r = step(random, 22).abs();
-    Try { kind, sheet, s, raw: 0, r, er: e, air }.clamped().to_the_top(random)
+    Try { kind, sheet, s, raw: 0, r, er: e, air }.clamped().to_the_steepest(random)
 }
 
 /// Climbs from one start until many changes in a row bring nothing.
@@ -263,7 +275,7 @@ fn climb_once(random: &mut Random, kind: Kind) -> Try {
             next = next.neighbour(random);
         }
         if random.percent(30) {
-            next = next.to_the_top(random);
+            next = next.to_the_steepest(random);
         }
         let next_size = next.size();
         idle += 1;

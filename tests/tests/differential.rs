@@ -14,7 +14,7 @@ fn folder() -> &'static Path {
 }
 
 fn few(seed: u64) -> Campaign {
-    Campaign { seed, sessions: 400, folder: folder().to_path_buf() }
+    Campaign { seed, sessions: 2_000, folder: folder().to_path_buf() }
 }
 
 #[test]
@@ -40,7 +40,7 @@ fn own_program_agrees_with_itself() {
 #[test]
 fn right_engine_passes() {
     let count = few(42).against_engine(&mut file::run).unwrap_or_else(|why| panic!("{why}"));
-    assert_eq!(count.sessions, 400);
+    assert_eq!(count.sessions, 2_000);
 }
 
 /// Checks that an engine that spoils the right run is caught, that the message says

@@ -48,7 +48,8 @@ fn every_bound_that_an_edit_tries_is_broken() {
     }
 }
 
-/// The cells of a row of the page's table, the largest error of one kind or of two.
+/// The last two cells of each row of the page's table: the error of the kind's named
+/// reading, and of the one below zero.
 #[test]
 fn the_page_on_errors_quotes_them() {
     let page = include_str!("../../docs/ERRORS.md");
@@ -68,9 +69,9 @@ fn the_page_on_errors_quotes_them() {
     }
 }
 
-/// The size of an error, cut after two decimals.
+/// The size of an error to two decimals.
 fn hundredths(error: &Fraction) -> String {
-    error.decimal(2).trim_start_matches('-').to_string()
+    format!("{:.2}", error.error_of(0).abs())
 }
 
 /// The named readings keep within demand 3 all the same.

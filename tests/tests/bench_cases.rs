@@ -1,5 +1,6 @@
-//! Every reading on the bench of document 01, starred and not, and its printed
-//! example. All expected figures stand in document 01.
+//! Every reading on the bench of document 01, starred and not, with what document 02
+//! changes of them, and document 01's printed example. The expected figures stand in these
+//! documents, or follow from them as said.
 
 use irga_tests::bench;
 use irga_tests::engine::{step, Answer, Entry, Event, SheetRecord, State};

@@ -243,13 +243,16 @@ fn readings_of_sessions_with_refusals() {
     let path = scratch("refusals.session");
     let mut random = Random::new(0x6268);
     let mut meanings = HashMap::new();
+    let mut below_zero = 0;
     for profile in PROFILES.iter().cycle().take(12 * PROFILES.len()) {
         let session = sessions::session(&mut random, profile).to_bytes();
         fs::write(&path, &session).expect("the session can be written");
         let output = run(&program, &[&path], None);
         assert_eq!(output.status.code(), Some(0));
         assert_owed(&output.stdout, &lines(&session), &mut meanings);
+        below_zero += String::from_utf8_lossy(&output.stdout).matches(": wet -").count();
     }
+    assert!(below_zero >= 100, "{below_zero} readings below zero");
     let mut numbers: Vec<&str> = meanings.keys().map(String::as_str).collect();
     numbers.sort_by_key(|number| number.len());
     let mut texts: Vec<&String> = meanings.values().collect();

@@ -94,7 +94,7 @@ accepted s v a c q =
 
 module _ (s : Sheet) (a : Air) (okS : SheetOk s) (okA : AirOk a) {v c : ℤ} (h : Accepted s v a c) where
   pub z-size : natAbs (reducedOf v a) ≤ 100000000
-  z-size = size-between (omega (arith, lowest-z s a okS okA)) (reduced-mono a okA (h .from-low)) (h .z-high)
+  z-size = size-between (omega (arith, lowest-z a okA)) (reduced-mono a okA (h .from-low)) (h .z-high)
 
   pub value-size : natAbs c ≤ 3000000000
   value-size = size-between (lowest-wet s a okS okA) (subst (λ (x : ℤ). wetOf s lowestSignal (reducedOf lowestSignal a) a ≤ℤ x) (h .value) (wet-mono s a okS okA (h .from-low))) (h .c-high)

@@ -13,7 +13,7 @@ use Rattle.rounding.proofs.Tests.{lt-true, lt-false, le-true, true-lt, true-le,
 use Rattle.curve.specs.declared.Sheet.{Sheet}
 use Rattle.curve.specs.declared.Air.{Air}
 use Rattle.curve.specs.declared.Reading.{Reading}
-use Rattle.curve.specs.declared.Reading.the-variants.{Value, BelowZero, OverRange}
+use Rattle.curve.specs.declared.Reading.the-variants.{Value}
 use Rattle.curve.specs.Limits.{SheetOk, AirOk}
 use Rattle.curve.specs.Curve.{broadeningOf, reducedOf, slope2Of, slope1Of, cubicOf, straightOf, curveOf, moistOf, warmOf, wetOf}
 use Rattle.curve.specs.Absolute.{lowestSignal, signalLow, unlessOver, absoluteOf}

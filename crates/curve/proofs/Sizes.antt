@@ -60,16 +60,15 @@ moist-size m f a ok h =
     core : (n p e : ℕ) → n ≤ 3 * m → 10 * e ≤ p → n * (100 * p + 57 * e) ≤ 4 * m * (100 * p)
     core n p e b k = omega (arith, mul-le-mul-right (100 * p + 57 * e) b, mul-le-mul-left m k)
 
--- ---- the wet value of the lowest signal of the line
-module _ (s : Sheet) (a : Air) (okS : SheetOk s) (okA : AirOk a) where
-  pub lowest-z : natAbs (reducedOf lowestSignal a) ≤ 4000000
-  unfolding reducedOf
-  lowest-z = near-size (lowestSignal *ℤ pos 10130000) 4000000 (omega (arith, okA .p-low)) (omega (arith, okA .p-low))
+-- ---- z and the wet value at the lowest signal that is read
+pub lowest-z : (a : Air) → AirOk a → natAbs (reducedOf lowestSignal a) ≤ 4000000
+unfolding reducedOf
+lowest-z a ok = near-size (lowestSignal *ℤ pos 10130000) 4000000 (omega (arith, ok .p-low)) (omega (arith, ok .p-low))
 
-  pub lowest-wet : natAbs (wetOf s lowestSignal (reducedOf lowestSignal a) a) ≤ 3000000000
-  unfolding wetOf warmOf straightOf
-  lowest-wet =
-      let z = reducedOf lowestSignal a in
-      let f = ratio-size 4000000 1000000000 600000000 z (pos (s .a1)) {d = 10000000} (omega arith) lowest-z (okS .a1-high) (omega arith) in
-      let g = moist-size 200000000 (straightOf s z) a okA f in
-      ratio-size 800000000 32315 3000000000 (moistOf (straightOf s z) a) (pos (a .t)) (omega (arith, okS .t0-low)) g (okA .t-high) (omega (arith, okS .t0-low))
+pub lowest-wet : (s : Sheet) (a : Air) → SheetOk s → AirOk a → natAbs (wetOf s lowestSignal (reducedOf lowestSignal a) a) ≤ 3000000000
+unfolding wetOf warmOf straightOf
+lowest-wet s a okS okA =
+    let z = reducedOf lowestSignal a in
+    let f = ratio-size 4000000 1000000000 600000000 z (pos (s .a1)) {d = 10000000} (omega arith) (lowest-z a okA) (okS .a1-high) (omega arith) in
+    let g = moist-size 200000000 (straightOf s z) a okA f in
+    ratio-size 800000000 32315 3000000000 (moistOf (straightOf s z) a) (pos (a .t)) (omega (arith, okS .t0-low)) g (okA .t-high) (omega (arith, okS .t0-low))

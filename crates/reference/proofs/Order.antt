@@ -1,7 +1,7 @@
 -- A higher raw signal never reads lower: each step from raw to the reading keeps the order. Assumes nothing.
 use Prim.Native.Nat.{ℕ}
 use native.Mathlib.Omega.{arith}
-use lib.IntN.{ℤ, pos, negℤ}
+use lib.IntN.{ℤ, negℤ}
 use lib.Signed.{_≤ℤ_, ≤ℤ-refl}
 use Rattle.rounding.proofs.Integers.{+ℤ-mono, scale-mono}
 use Rattle.rounding.proofs.Nearest.{near-mono}

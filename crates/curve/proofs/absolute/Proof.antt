@@ -95,7 +95,7 @@ wet-requires c κs =
     let fv = s .fits .v in
     let fz : SFits w64 (d .before .reduced .result) = search needs in
     let bottom = reduced-mono (s .args .a) (s .pre .1) (lt-false (s .args .v) lowestSignal (below-at d)) in
-    let size = lowest-z (s .args .s) (s .args .a) (s .pre .0) (s .pre .1) in
+    let size = lowest-z (s .args .a) (s .pre .1) in
     let top = lt-false (pos 100000000) (reducedOf (s .args .v) (s .args .a)) (z-high d ∙ c .if4 .left) in
     simp toZ-ofZ (s .pre .0, rw (z-is (d .before)) (size-between (omega arith) bottom top), s .pre .1)
 

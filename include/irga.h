@@ -134,8 +134,8 @@ uint8_t irga_lines(const uint8_t *file, size_t file_length,
  *
  * answer, answer_length   an answer of irga_run; of more than 24 bytes the first 24 count
  * wet, dry                get the mole fractions of CO2 in the moist air and in the air
- *                         without its water vapour, in pmol/mol; below 0 for a signal
- *                         below zero, as the noise of zero gas has them
+ *                         without its water vapour, in pmol/mol; 0 or below for a signal
+ *                         below zero, as the noise of zero gas has it
  * signal                  gets the reference signal in 100 nV, 0 in absolute mode
  *
  * Returns IRGA_ACCEPTED; or the refusal that the answer holds, whatever its kind; or

@@ -185,7 +185,8 @@ mod tests {
         Air { p, t: random.between(27_315, 32_315), e: random.between(0, p / 10) }
     }
 
-    /// Document 004's equation term by term, in µmol/mol and mV, times 10^6.
+    /// Document 004's equation term by term, in µmol/mol and mV, times 10^6; below zero with
+    /// document 02's a1 Z for its polynomial.
     fn as_printed(sheet: &Sheet, air: &Air, signal: &Fraction) -> Fraction {
         let p = i128::from(air.p);
         let chi = Fraction::whole(1).plus(&Fraction::of(57 * i128::from(air.e), 100 * p));

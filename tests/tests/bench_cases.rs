@@ -165,13 +165,16 @@ fn around_zero_through_the_program() {
     assert_eq!(printed(&[bench::sheet()], &events), expected);
 }
 
-/// An integration of noise: a mean above nothing where negatives were refused, and none now.
+/// Noise on both sides of zero: its readings add up to nothing, and all are counted. The area
+/// is 2 × 15 × (−3 + 2 − 1 + 4 − 2) − 4 × 15 × (−3 − 2).
 #[test]
-fn noise_cancels() {
+fn noise_around_zero_is_counted() {
+    let sheets = [bench::sheet()];
     let noise = [-3, 2, -1, 4, -2].map(sample);
+    let wet = noise.map(|event| last_answer(&sheets, &[LOAD, event]).x);
+    assert_eq!((wet, wet.iter().sum()), ([-45, 30, -15, 60, -30], 0));
     let events = [&[LOAD, Event::Start][..], &noise, &[Event::Area]].concat();
-    // 2 × 15 × (−3 + 2 − 1 + 4 − 2) − 4 × 15 × (−3 − 2).
-    assert_eq!(last_answer(&[bench::sheet()], &events), accepted(9, 5, 300, 0));
+    assert_eq!(last_answer(&sheets, &events), accepted(9, 5, 300, 0));
 }
 
 /// The cases that no theorem has, in one session.

@@ -122,9 +122,10 @@ fn an_integration_longer_than_any_file() {
     print(&met);
 }
 
-/// The steepest line, in the warmest and thinnest air: a higher P, a lower T or A1 or a
-/// higher T0 moves the wet value of the lowest signal up by more than the rounding of z can
-/// move it down, so only e is left to try.
+/// The lowest wet value of all: the steepest line with the coldest T0, in the warmest and
+/// thinnest air. A1, T and T0 have no part in z, and every step after it keeps the order in
+/// each of them; P moves z, but one unit of it lifts the wet value by 6,657, where rounding z
+/// moves it by some 60. Only e is left to try.
 fn lowest_wet_value() -> (Sheet, Air, i64) {
     let sheet = Sheet { a1: 1_000_000_000, a2: 0, a3: 0, t0: 27_315, k: 400_000_000 };
     let airs = (0..=6_000).map(|e| Air { p: 60_000, t: 32_315, e });
@@ -133,45 +134,64 @@ fn lowest_wet_value() -> (Sheet, Air, i64) {
     (sheet, lowest, wet(&lowest))
 }
 
-/// First and last reading as low as they go and all others nearly as high: such an area is
-/// above document 01's 3.6 × 10^15, below what docs/DECISIONS.md says, and far below 2^53.
-#[test]
-fn the_largest_area() {
-    let (sheet, low_air, lowest) = lowest_wet_value();
-    let (a1, t0, k) = (sheet.a1 as i32, sheet.t0 as u32, sheet.k as u32);
-    let sheets = [SheetRecord { a1, a2: 0, a3: 0, t0, k, rest: 0 }];
-    let over = |v: i64| rules::absolute_reading(&sheet, &low_air, v).is_err();
-    let top = rules::first_from(0, rules::SIGNAL_LIMIT, over).expect("an end of the range") - 1;
-    let Air { p, t, e } = low_air;
-    let sample =
-        |raw: i64| Event::Sample { raw: raw as i32, p: p as u32, t: t as u32, e: e as u32 };
+/// 2Σ − (n − 1)(Xs + Xe) of 600,000 readings whose ends have one value and all others another.
+fn area_of_ends(ends: i64, others: i64) -> i128 {
+    let (n, ends, others) = (i128::from(READINGS_LIMIT), i128::from(ends), i128::from(others));
+    2 * (others * (n - 2) + 2 * ends) - (n - 1) * 2 * ends
+}
+
+/// The engine's area of so many samples, the first and the last of them of one kind.
+fn area_of_samples(sheet: SheetRecord, ends: Event, others: Event) -> i128 {
     let mut state = State::fresh();
     let mut feed = |event: Event| {
-        let (answer, next) = step(&sheets, &state, &Entry::Known(event));
+        let (answer, next) = step(&[sheet], &state, &Entry::Known(event));
         state = next;
         assert_eq!(answer.refusal, 0, "{event:?}");
         answer
     };
     feed(Event::Load { index: 0 });
     feed(Event::Start);
-    assert_eq!(feed(sample(rules::LOWEST_SIGNAL)).x, lowest);
+    feed(ends);
     for _ in 2..READINGS_LIMIT {
-        feed(sample(top));
+        feed(others);
     }
-    feed(sample(rules::LOWEST_SIGNAL));
-    let Answer { m, x: area, .. } = feed(Event::Area);
-    let n = i128::from(READINGS_LIMIT);
-    assert_eq!(i128::from(m), n);
-    let (low, high) = (i128::from(lowest), i128::from(rules::WET_LIMIT));
-    let most = 2 * (high * (n - 2) + 2 * low) - (n - 1) * 2 * low;
-    println!("lowest wet value {lowest}, largest area {area}, at most {most}");
-    assert!(i128::from(area) <= most && most <= 4_080_000_000_000_000);
-    assert!(area >= 4_079_000_000_000_000);
+    feed(ends);
+    let Answer { m, x, .. } = feed(Event::Area);
+    assert_eq!(u64::from(m), READINGS_LIMIT);
+    i128::from(x)
+}
+
+/// First and last reading as low as they go and all others nearly as high, and the other way
+/// round: such an area is above document 01's 3.6 × 10^15 in size, at most what
+/// docs/DECISIONS.md says, and so below 2^53.
+#[test]
+fn the_largest_area() {
+    let (sheet, air, lowest) = lowest_wet_value();
+    let over = |v: i64| rules::absolute_reading(&sheet, &air, v).is_err();
+    let top = rules::first_from(0, rules::SIGNAL_LIMIT, over).expect("an end of the range") - 1;
+    let (a1, t0, k) = (sheet.a1 as i32, sheet.t0 as u32, sheet.k as u32);
+    let record = SheetRecord { a1, a2: 0, a3: 0, t0, k, rest: 0 };
+    let (p, t, e) = (air.p as u32, air.t as u32, air.e as u32);
+    let [low, high] =
+        [rules::LOWEST_SIGNAL, top].map(|raw| Event::Sample { raw: raw as i32, p, t, e });
+    let highest = rules::WET_LIMIT;
+    let cases = [
+        (area_of_samples(record, low, high), area_of_ends(lowest, highest)),
+        (area_of_samples(record, high, low), area_of_ends(highest, lowest)),
+    ];
     let page = in_one_line(include_str!("../../docs/DECISIONS.md"));
-    for figure in
-        [format!("go down to −{} now", grouped(&(-lowest).to_string())), grouped(&most.to_string())]
-    {
+    let says = |figure: i128| {
+        let sign = if figure < 0 { "−" } else { "" };
+        let figure = format!("{sign}{}", grouped(&figure.unsigned_abs().to_string()));
         assert!(page.contains(&figure), "docs/DECISIONS.md does not say {figure}");
+    };
+    says(i128::from(lowest));
+    println!("lowest wet value {lowest}");
+    for (area, most) in cases {
+        println!("area {area}, at most {most} in size");
+        assert!(4_079_000_000_000_000 < area.abs() && area.abs() <= most.abs());
+        assert!(most.abs() <= 4_080_000_000_000_000);
+        says(most);
     }
 }
 

@@ -180,8 +180,9 @@ fn signals_around_zero() {
     println!("around zero in absolute mode: {absolute:?}");
     println!("around zero against a reference: {against:?}");
     for met in [&absolute, &against] {
-        assert!(met.read >= 1_500 && met.refused >= 50, "{met:?}");
+        assert!(met.read >= 1_500, "{met:?}");
         assert!(met.lowest >= 100 && met.one_below >= 50 && met.seam >= 50, "{met:?}");
+        assert!(met.refused >= met.one_below + 20, "{met:?}");
     }
 }
 

@@ -74,6 +74,24 @@ fn hundredths(error: &Fraction) -> String {
     format!("{:.2}", error.error_of(0).abs())
 }
 
+/// No named reading has a wet or dry value that errs by more than that of its own kind.
+#[test]
+fn each_kind_has_the_largest_of_them() {
+    for reading in blocks().into_iter().filter_map(Reading::parse) {
+        let wet = match reading.reference {
+            None => [Kind::WetAbsolute, Kind::WetAbsoluteBelowZero],
+            Some(_) => [Kind::WetAgainst, Kind::WetAgainstBelowZero],
+        };
+        for kind in [wet[0], wet[1], Kind::Dry, Kind::DryBelowZero] {
+            // A reading from zero on is none of a kind below it.
+            if let Ok((_, error)) = (Reading { kind, ..reading }).replay() {
+                let larger = error.is_farther_than(&error_of(kind));
+                assert!(!larger, "{:?} as {kind:?}: {}", reading.kind, error.decimal(6));
+            }
+        }
+    }
+}
+
 /// The named readings keep within demand 3 all the same.
 #[test]
 fn named_readings_keep_their_distances() {

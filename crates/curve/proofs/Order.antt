@@ -15,7 +15,7 @@ use Rattle.curve.specs.declared.Air.{Air}
 use Rattle.curve.specs.declared.Reading.{Reading}
 use Rattle.curve.specs.declared.Reading.the-variants.{Value}
 use Rattle.curve.specs.Limits.{SheetOk, AirOk}
-use Rattle.curve.specs.Curve.{broadeningOf, reducedOf, slope2Of, slope1Of, cubicOf, straightOf, curveOf, moistOf, warmOf, wetOf}
+use Rattle.curve.specs.Curve.{broadeningOf, reducedOf, slope2Of, slope1Of, cubicOf, straightOf, signalNegative, curveOf, moistOf, warmOf, wetOf}
 use Rattle.curve.specs.Absolute.{lowestSignal, signalLow, unlessOver, absoluteOf}
 use Rattle.curve.specs.Order.{NotAbove, from-below, values, to-over, ReadingRises}
 use Rattle.curve.proofs.Seam.{above-0, reduced-nonnegative, reduced-nonpositive}
@@ -63,15 +63,15 @@ module _ (s : Sheet) {z : ℤ} where
 
 -- f never falls as V rises: the line ends at 0, where the cubic begins
 curve-mono : (s : Sheet) (a : Air) → AirOk a → {v w : ℤ} → v ≤ℤ w → curveOf s v (reducedOf v a) ≤ℤ curveOf s w (reducedOf w a)
-curve-mono s a ok {v} {w} h = by-signs (ltZ v (pos 0)) (ltZ w (pos 0)) refl refl
+curve-mono s a ok {v} {w} h = by-signs (signalNegative v) (signalNegative w) refl refl
   where
-    below : (u : ℤ) → ltZ u (pos 0) ≡ true → reducedOf u a ≤ℤ pos 0
+    below : (u : ℤ) → signalNegative u ≡ true → reducedOf u a ≤ℤ pos 0
     below u e = reduced-nonpositive a ok (<ℤ-≤ℤ (lt-true u (pos 0) e))
 
-    from-0 : (u : ℤ) → ltZ u (pos 0) ≡ false → pos 0 ≤ℤ reducedOf u a
+    from-0 : (u : ℤ) → signalNegative u ≡ false → pos 0 ≤ℤ reducedOf u a
     from-0 u e = reduced-nonnegative a ok (lt-false u (pos 0) e)
 
-    by-signs : (t u : Bool) → ltZ v (pos 0) ≡ t → ltZ w (pos 0) ≡ u
+    by-signs : (t u : Bool) → signalNegative v ≡ t → signalNegative w ≡ u
         → cond t (straightOf s (reducedOf v a)) (cubicOf s (reducedOf v a)) ≤ℤ cond u (straightOf s (reducedOf w a)) (cubicOf s (reducedOf w a))
     by-signs true true e f = straight-mono s (reduced-mono a ok h)
     by-signs true false e f = ≤ℤ-trans (straight-nonpositive s (below v e)) (cubic-nonnegative s (from-0 w f))
@@ -114,7 +114,7 @@ unless-mono x true f h = to-over
 unless-mono false false f h = h
 unless-mono true false f h = absurd (subst T (sym (f refl)) tt)
 
-pub absolute-mono : (s : Sheet) (a : Air) → SheetOk s → AirOk a → ReadingRises s a
+pub absolute-mono : ReadingRises
 unfolding absoluteOf
 absolute-mono s a okS okA v w h = by-limit (signalLow v) refl
   where

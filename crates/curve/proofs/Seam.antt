@@ -15,7 +15,7 @@ use Rattle.rounding.proofs.Tests.{lt-true, lt-false, true-lt, false-lt}
 use Rattle.curve.specs.declared.Sheet.{Sheet}
 use Rattle.curve.specs.declared.Air.{Air}
 use Rattle.curve.specs.Limits.{AirOk}
-use Rattle.curve.specs.Curve.{broadeningOf, reducedOf, slope2Of, slope1Of, cubicOf, straightOf, curveOf}
+use Rattle.curve.specs.Curve.{broadeningOf, reducedOf, slope2Of, slope1Of, cubicOf, straightOf, signalNegative, curveOf}
 use Rattle.curve.specs.Order.{SameSign}
 use Rattle.curve.proofs.Sizes.{broadening-high}
 
@@ -53,16 +53,16 @@ module _ (a : Air) (ok : AirOk a) where
         let m : down v < up v = omega (arith, of-lt (is-nat 0) (is-parts v) h) in
         is-lt (is-nat 0) (is-parts r) (omega (arith, strictly (down r) (up r) (down v) (up v) (broadeningOf a) (broadening-high a ok) m (l .1)))
 
-    pub same-sign : SameSign v a
-    same-sign = record { below = below (ltZ v (pos 0)) refl; above = above (ltZ (pos 0) v) refl }
-      where
-        below : (t : Bool) → ltZ v (pos 0) ≡ t → ltZ (reducedOf v a) (pos 0) ≡ ltZ v (pos 0)
-        below true e = true-lt (reducedOf v a) (pos 0) (reduced-negative (lt-true v (pos 0) e)) ∙ sym e
-        below false e = false-lt (reducedOf v a) (pos 0) (reduced-nonnegative (lt-false v (pos 0) e)) ∙ sym e
+    below : (t : Bool) → ltZ v (pos 0) ≡ t → ltZ (reducedOf v a) (pos 0) ≡ ltZ v (pos 0)
+    below true e = true-lt (reducedOf v a) (pos 0) (reduced-negative (lt-true v (pos 0) e)) ∙ sym e
+    below false e = false-lt (reducedOf v a) (pos 0) (reduced-nonnegative (lt-false v (pos 0) e)) ∙ sym e
 
-        above : (t : Bool) → ltZ (pos 0) v ≡ t → ltZ (pos 0) (reducedOf v a) ≡ ltZ (pos 0) v
-        above true e = true-lt (pos 0) (reducedOf v a) (reduced-positive (lt-true (pos 0) v e)) ∙ sym e
-        above false e = false-lt (pos 0) (reducedOf v a) (reduced-nonpositive (lt-false (pos 0) v e)) ∙ sym e
+    above : (t : Bool) → ltZ (pos 0) v ≡ t → ltZ (pos 0) (reducedOf v a) ≡ ltZ (pos 0) v
+    above true e = true-lt (pos 0) (reducedOf v a) (reduced-positive (lt-true (pos 0) v e)) ∙ sym e
+    above false e = false-lt (pos 0) (reducedOf v a) (reduced-nonpositive (lt-false (pos 0) v e)) ∙ sym e
+
+pub same-sign : SameSign
+same-sign a ok v = (below a ok v (ltZ v (pos 0)) refl, above a ok v (ltZ (pos 0) v) refl)
 
 -- ---- line and cubic in one
 unfoldable pub bentOf : Sheet → ℤ → ℤ
@@ -81,8 +81,8 @@ module _ (s : Sheet) {z : ℤ} where
   cubic-bent h = rw (raised-from-0 h)
 
 pub curve-bent : (s : Sheet) (a : Air) → AirOk a → (v : ℤ) → curveOf s v (reducedOf v a) ≡ bentOf s (reducedOf v a)
-curve-bent s a ok v = by-sign (ltZ v (pos 0)) refl
+curve-bent s a ok v = by-sign (signalNegative v) refl
   where
-    by-sign : (t : Bool) → ltZ v (pos 0) ≡ t → cond t (straightOf s (reducedOf v a)) (cubicOf s (reducedOf v a)) ≡ bentOf s (reducedOf v a)
+    by-sign : (t : Bool) → signalNegative v ≡ t → cond t (straightOf s (reducedOf v a)) (cubicOf s (reducedOf v a)) ≡ bentOf s (reducedOf v a)
     by-sign true e = straight-bent s (reduced-nonpositive a ok (<ℤ-≤ℤ (lt-true v (pos 0) e)))
     by-sign false e = cubic-bent s (reduced-nonnegative a ok (lt-false v (pos 0) e))

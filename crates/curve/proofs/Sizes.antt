@@ -3,7 +3,6 @@ use Prim.Native.Nat.{ℕ, _+_, _*_, _≤_, _<_}
 use native.Mathlib.Nat.{mul-le-mul-left, mul-le-mul-right}
 use native.Mathlib.Omega.{arith}
 use mathlib.Core.Bool.{Bool, true, false, cond}
-use lib.Signed.{ltZ}
 use lib.IntN.{ℤ, pos, natAbs, _*ℤ_}
 use Rattle.rounding.specs.Near.{nearest}
 use Rattle.rounding.proofs.Integers.{abs-add, abs-mul, prod}
@@ -12,7 +11,7 @@ use Rattle.curve.specs.declared.Sheet.{Sheet}
 use Rattle.curve.specs.declared.Air.{Air}
 use Rattle.curve.specs.Limits.{SheetOk, AirOk}
 use Rattle.curve.specs.Absolute.{lowestSignal}
-use Rattle.curve.specs.Curve.{broadeningOf, reducedOf, slope2Of, slope1Of, cubicOf, straightOf, curveOf, moistOf, warmOf, wetOf}
+use Rattle.curve.specs.Curve.{broadeningOf, reducedOf, slope2Of, slope1Of, cubicOf, straightOf, signalNegative, curveOf, moistOf, warmOf, wetOf}
 
 -- a product over d is at most m, from bounds of its factors
 ratio-size : (A B m : ℕ) (x y : ℤ) {d : ℕ} → 0 < d → natAbs x ≤ A → natAbs y ≤ B → A * B ≤ m * d → natAbs (nearest (x *ℤ y) d) ≤ m
@@ -42,7 +41,7 @@ module _ (s : Sheet) (ok : SheetOk s) (z : ℤ) (h : natAbs z ≤ 100000000) whe
   straight-size = ratio-size 100000000 1000000000 30000000000 z (pos (s .a1)) (omega arith) h (ok .a1-high) (omega arith)
 
   pub curve-size : (v : ℤ) → natAbs (curveOf s v z) ≤ 30000000000
-  curve-size v = by-sign (ltZ v (pos 0))
+  curve-size v = by-sign (signalNegative v)
     where
       by-sign : (t : Bool) → natAbs (cond t (straightOf s z) (cubicOf s z)) ≤ 30000000000
       by-sign true = straight-size

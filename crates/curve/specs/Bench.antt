@@ -1,4 +1,5 @@
--- The starred readings of document 01, "Readings on the bench", as statements about the rules. Assumes nothing.
+-- The starred readings of document 01, "Readings on the bench", as R-1 has them and with its two limits, as statements about the rules.
+-- Assumes nothing.
 use mathlib.Core.Path.{_≡_}
 use lib.IntN.{pos, negℤ}
 use Rattle.curve.specs.declared.Sheet.{Sheet}

@@ -1,7 +1,7 @@
 -- The rounded steps of document 01, "Curve and absolute reading", from a signal to its wet and dry value. Each step has the
 -- name of what it stands for, and document 01's letter beside it. `nearest` is document 01's near. Assumes nothing.
 use Prim.Native.Nat.{ℕ, _+_, _*_, _-_}
-use mathlib.Core.Bool.{cond}
+use mathlib.Core.Bool.{Bool, cond}
 use lib.IntN.{ℤ, pos, _+ℤ_, _*ℤ_}
 use lib.Signed.{ltZ}
 use Rattle.rounding.specs.Near.{nearest}
@@ -32,9 +32,13 @@ cubicOf s z = nearest (z *ℤ slope1Of s z) 10000000
 unfoldable pub straightOf : Sheet → ℤ → ℤ
 straightOf s z = nearest (z *ℤ pos (s .a1)) 10000000
 
+-- V is below 0
+abbrev pub signalNegative : ℤ → Bool
+signalNegative v = ltZ v (pos 0)
+
 -- f: the sheet's curve, by the sign of the signal V that is reduced to z
 abbrev pub curveOf : Sheet → ℤ → ℤ → ℤ
-curveOf s v z = cond (ltZ v (pos 0)) (straightOf s z) (cubicOf s z)
+curveOf s v z = cond (signalNegative v) (straightOf s z) (cubicOf s z)
 
 -- g: f D / (100 P), which is f χ
 unfoldable pub moistOf : ℤ → Air → ℤ

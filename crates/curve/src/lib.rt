@@ -30,7 +30,7 @@ pub struct Air {
 // The wet value in pmol/mol, or why there is none.
 pub enum Reading {
     Value(i64),
-    // Refusal 7: further below zero than noise goes.
+    // Refusal 7: below −2,000,000.
     BelowZero,
     // Refusal 8.
     OverRange,

@@ -1,5 +1,5 @@
--- The starred cases of document 01, "Readings on the bench", as one fact about the rules: each as what `rules` answers to an entry
--- at a named state, and the state that it leaves. Assumes nothing.
+-- The starred cases of document 01, "Readings on the bench", as R-1 has them and with its two limits, as one fact about the rules: each
+-- as what `rules` answers to an entry at a named state, and the state that it leaves. Assumes nothing.
 use mathlib.Core.List.{List, [], _∷_}
 use mathlib.Core.Path.{_≡_}
 use Prim.Native.Nat.{ℕ}

@@ -5,9 +5,6 @@ use lib.IntN.{ℤ, negℤ}
 use lib.Signed.{_≤ℤ_, ≤ℤ-refl}
 use Rattle.rounding.proofs.Integers.{+ℤ-mono, scale-mono}
 use Rattle.rounding.proofs.Nearest.{near-mono}
-use Rattle.curve.specs.declared.Sheet.{Sheet}
-use Rattle.curve.specs.declared.Air.{Air}
-use Rattle.curve.specs.Limits.{SheetOk, AirOk}
 use Rattle.curve.proofs.Order.{absolute-mono}
 use Rattle.reference.specs.Signal.{signalOf}
 use Rattle.reference.specs.Order.{RawRises}
@@ -17,7 +14,7 @@ signal-mono : (q : ℤ) (span : ℕ) {raw other : ℤ} → raw ≤ℤ other → 
 unfolding signalOf
 signal-mono q span h = near-mono 1000000 (omega arith) (scale-mono span (+ℤ-mono h (≤ℤ-refl (negℤ q))))
 
-pub raw-rises : (s : Sheet) (a : Air) → SheetOk s → AirOk a → (q : ℤ) (span : ℕ) → RawRises s a q span
+pub raw-rises : RawRises
 raw-rises s a okS okA q span =
     record {
       signal = signal-mono q span;

@@ -184,12 +184,13 @@ impl<'a> Author<'a> {
         }
     }
 
-    /// A signal around zero or below it, and how far beside its raw signal to go: next to zero
-    /// the exact signal and the rounded one can stand on either side of it.
+    /// A signal around zero or below it, now and then too far, and how far beside its raw signal
+    /// to go: next to zero the exact signal and the rounded one can stand on either side of it.
     fn around_zero(&mut self) -> (i64, i64) {
         let lowest = rules::LOWEST_SIGNAL;
         if self.edge() {
-            return (self.random.pick(&[lowest, lowest, lowest - 1, lowest + 1]), 0);
+            let far = lowest * self.random.between(2, 40);
+            return (self.random.pick(&[lowest, lowest, lowest - 1, lowest + 1, far]), 0);
         }
         match self.random.below(4) {
             0 => (self.random.between(lowest, -1), 0),

@@ -4,15 +4,14 @@ use borrow.Author.Needs.{needs}
 use mir.Facts.{toZ-ofZ}
 use mir.Syntax.{w64}
 use mir.Val.{SFits}
-use lib.IntN.{pos}
-use lib.Signed.{ltZ}
+use Rattle.curve.specs.Curve.{signalNegative}
 use Rattle.curve.proofs.steps.curve.Statement.{statement}
 use Rattle.curve.proofs.steps.curve.Tie as tie
 
 below-zero-requires : tie.Need-below-zero-requires
 below-zero-requires c κs = search needs
 
-sign : (c : tie.After-below-zero) → ltZ (c .before .args .v) (pos 0) ≡ c .below-zero .result
+sign : (c : tie.After-below-zero) → signalNegative (c .before .args .v) ≡ c .below-zero .result
 sign c = let fv = c .before .fits .v in sym (simp toZ-ofZ at (c .below-zero .ensures))
 
 straight-requires : tie.Need-straight-requires

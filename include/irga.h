@@ -87,7 +87,8 @@ enum irga_refusal {
     IRGA_OVER_RANGE = 8,           /* the signal or the mole fraction is over range */
     IRGA_NO_REFERENCE_SIGNAL = 9,  /* no signal reads the reference cylinder */
     IRGA_NOT_NOW = 10,             /* the event does not fit the mode or the integration */
-    IRGA_MALFORMED_EVENT = 11,     /* unknown kind, or a byte not zero that must be */
+    IRGA_MALFORMED_EVENT = 11,     /* unknown kind, or a byte of the event that must be zero
+                                      and is not */
     IRGA_MALFORMED_FILE = 12,      /* header or length not as the format says */
     IRGA_OUTPUT_TOO_SHORT = 13     /* the output is shorter than the function asks */
 };

@@ -293,7 +293,9 @@ fn limits_of_room_and_signal() {
     let read = |v: i64| rules::absolute_reading(&sheet, &bench::AIR, v);
     let lowest = rules::LOWEST_SIGNAL;
     assert!(read(lowest).is_ok() && read(lowest - 1) == Err(Refusal::BelowZero));
-    assert_says(&format!("the signal V that is read, at least {} |", minus(lowest)));
+    let millivolts = minus(lowest / bench::UNITS_PER_MV);
+    let words = format!("the signal V that is read at least {} ({millivolts} mV),", minus(lowest));
+    assert_says(&words);
 }
 
 /// A number below 0 as README.md writes it.

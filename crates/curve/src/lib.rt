@@ -52,10 +52,10 @@ pub fn absolute(s: Sheet, v: i64, a: Air) -> Reading
     requires { ⌜ SheetOk s × AirOk a ⌝ }
     ensures { λ r. ⌜ r ≡ absoluteOf s v a ⌝ }
 {
+    // Both ends of V are tested before z is computed, so that its product fits.
     if below(v, 2000000) {
         return Reading::BelowZero;
     }
-    // Before z is computed, so that its product fits.
     if above(v, 150000000) {
         return Reading::OverRange;
     }

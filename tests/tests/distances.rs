@@ -124,13 +124,14 @@ fn an_integration_longer_than_any_file() {
 
 /// The lowest wet value of all: the steepest line with the coldest T0, in the warmest and
 /// thinnest air. A1, T and T0 have no part in z, and every step after it keeps the order in
-/// each of them; P moves z, but one unit of it lifts the wet value by 6,657, where rounding z
-/// moves it by some 60. Only e is left to try.
+/// each of them. P moves z and lifts the wet value as it rises, by more in one unit than
+/// rounding z can take back; the lowest pressures are tried all the same, with every e.
 fn lowest_wet_value() -> (Sheet, Air, i64) {
     let sheet = Sheet { a1: 1_000_000_000, a2: 0, a3: 0, t0: 27_315, k: 400_000_000 };
-    let airs = (0..=6_000).map(|e| Air { p: 60_000, t: 32_315, e });
+    let airs = (60_000..60_010).flat_map(|p| (0..=p / 10).map(move |e| Air { p, t: 32_315, e }));
     let wet = |air: &Air| rules::absolute_reading(&sheet, air, rules::LOWEST_SIGNAL).unwrap();
     let lowest = airs.min_by_key(wet).expect("some air");
+    assert_eq!(lowest.p, 60_000);
     (sheet, lowest, wet(&lowest))
 }
 

@@ -37,28 +37,21 @@ module _ (a : Air) (ok : AirOk a) where
   strictly x y p n D b l g = lt-of-mul-lt-mul-left D (omega arith)
 
   module _ (v : ℤ) where
-    reduced-negative : v <ℤ pos 0 → reducedOf v a <ℤ pos 0
+    strict-sign : (v <ℤ pos 0 → reducedOf v a <ℤ pos 0) × (pos 0 <ℤ v → pos 0 <ℤ reducedOf v a)
     unfolding reducedOf
-    reduced-negative h =
-        let r = reducedOf v a in
-        let l = half-sides (near-half (v *ℤ pos 10130000) (broadeningOf a) above-0) (is-parts r) (is-scale 10130000 (is-parts v)) in
-        let m : up v < down v = omega (arith, of-lt (is-parts v) (is-nat 0) h) in
-        is-lt (is-parts r) (is-nat 0) (omega (arith, strictly (up r) (down r) (up v) (down v) (broadeningOf a) (broadening-high a ok) m (l .0)))
-
-    reduced-positive : pos 0 <ℤ v → pos 0 <ℤ reducedOf v a
-    unfolding reducedOf
-    reduced-positive h =
-        let r = reducedOf v a in
-        let l = half-sides (near-half (v *ℤ pos 10130000) (broadeningOf a) above-0) (is-parts r) (is-scale 10130000 (is-parts v)) in
-        let m : down v < up v = omega (arith, of-lt (is-nat 0) (is-parts v) h) in
-        is-lt (is-nat 0) (is-parts r) (omega (arith, strictly (down r) (up r) (down v) (up v) (broadeningOf a) (broadening-high a ok) m (l .1)))
+    strict-sign =
+        let r = reducedOf v a in let R = is-parts r in let A = is-parts v in let D = broadeningOf a in let b = broadening-high a ok in
+        let l = half-sides (near-half (v *ℤ pos 10130000) D above-0) R (is-scale 10130000 A) in (
+          λ h. is-lt R (is-nat 0) (omega (arith, strictly (up r) (down r) (up v) (down v) D b (omega (arith, of-lt A (is-nat 0) h)) (l .0))),
+          λ h. is-lt (is-nat 0) R (omega (arith, strictly (down r) (up r) (down v) (up v) D b (omega (arith, of-lt (is-nat 0) A h)) (l .1))),
+        )
 
     below : (t : Bool) → ltZ v (pos 0) ≡ t → ltZ (reducedOf v a) (pos 0) ≡ ltZ v (pos 0)
-    below true e = true-lt (reducedOf v a) (pos 0) (reduced-negative (lt-true v (pos 0) e)) ∙ sym e
+    below true e = true-lt (reducedOf v a) (pos 0) (strict-sign .0 (lt-true v (pos 0) e)) ∙ sym e
     below false e = false-lt (reducedOf v a) (pos 0) (reduced-nonnegative (lt-false v (pos 0) e)) ∙ sym e
 
     above : (t : Bool) → ltZ (pos 0) v ≡ t → ltZ (pos 0) (reducedOf v a) ≡ ltZ (pos 0) v
-    above true e = true-lt (pos 0) (reducedOf v a) (reduced-positive (lt-true (pos 0) v e)) ∙ sym e
+    above true e = true-lt (pos 0) (reducedOf v a) (strict-sign .1 (lt-true (pos 0) v e)) ∙ sym e
     above false e = false-lt (pos 0) (reducedOf v a) (reduced-nonpositive (lt-false (pos 0) v e)) ∙ sym e
 
 pub same-sign : SameSign

@@ -8,17 +8,8 @@ use Rattle.curve.specs.Curve.{signalNegative}
 use Rattle.curve.proofs.steps.curve.Statement.{statement}
 use Rattle.curve.proofs.steps.curve.Tie as tie
 
-below-zero-requires : tie.Need-below-zero-requires
-below-zero-requires c κs = search needs
-
 sign : (c : tie.After-below-zero) → signalNegative (c .before .args .v) ≡ c .below-zero .result
 sign c = let fv = c .before .fits .v in sym (simp toZ-ofZ at (c .below-zero .ensures))
-
-straight-requires : tie.Need-straight-requires
-straight-requires c κs = search needs
-
-cubic-requires : tie.Need-cubic-requires
-cubic-requires c κs = search needs
 
 returns : tie.Need-returns
 returns c =
@@ -33,4 +24,4 @@ returns-2 c =
     toZ-ofZ r ∙ rw (sign (c .before .before) ∙ c .before .if1 .left) (simp toZ-ofZ at (c .cubic .ensures))
 
 pub curve-spec : {M : Type 1} → statement M
-curve-spec = tie.close (tie.spec below-zero-requires straight-requires cubic-requires returns returns-2)
+curve-spec = tie.close (tie.spec (λ c κs. search needs) (λ c κs. search needs) (λ c κs. search needs) returns returns-2)

@@ -6,9 +6,6 @@ use mir.Val.{SFits}
 use Rattle.rounding.proofs.signed.below.Statement.{statement}
 use Rattle.rounding.proofs.signed.below.Tie as tie
 
-negative-requires : tie.Need-negative-requires
-negative-requires c κs = search needs
-
 returns : tie.Need-returns
 returns c =
     let fa = c .before .fits .a in
@@ -16,4 +13,4 @@ returns c =
     simp toZ-ofZ (rw (c .negative .ensures))
 
 pub below-spec : {M : Type 1} → statement M
-below-spec = tie.close (tie.spec negative-requires returns)
+below-spec = tie.close (tie.spec (λ c κs. search needs) returns)

@@ -1,10 +1,11 @@
 -- A file that is made of records is read as these, `ReadsBack`, and a file that is read is made of its records again, `MadeAgain`.
 -- Assumes nothing.
-use Prim.Native.Nat.{ℕ, zero, suc, _+_, _*_, _≤_}
+use Prim.Native.Nat.{ℕ, zero, suc, _+_, _*_, _<_, _≤_}
+use native.Mathlib.Nat.{add-assoc}
 use native.Mathlib.Omega.{arith}
 use mathlib.Core.Path.{_≡_, refl, sym, ap, _∙_}
-use mathlib.Core.List.{List, [], _∷_, _++_, flatMap, append-nil, append-assoc}
-use lib.ListN.{length, take, drop, length-append}
+use mathlib.Core.List.{List, [], _∷_, _++_, map, flatMap, append-nil, append-assoc}
+use lib.ListN.{length, take, drop, getD, length-append}
 use lib.Seq.{take-at, take-add, take-all, drop-at, drop-drop}
 use Rattle.layout.specs.declared.SheetRecord.{SheetRecord}
 use Rattle.layout.specs.declared.EventRecord.{EventRecord}
@@ -25,13 +26,32 @@ module _ {A : Type 0} (read : List ℕ → A) where
   length-records s at zero = refl
   length-records s at (suc count) = ap suc (length-records s (at + 24) count)
 
-  records-fit : {P : A → Type 0} → ((b : List ℕ) → AreBytes b → P (read b)) → {s : List ℕ} → AreBytes s → (at count : ℕ) → Each P (recordsFrom read s at count)
+  -- one of them
+  pub record-of : (s : List ℕ) (at count i : ℕ) (d : A) → i < count → getD (recordsFrom read s at count) i d ≡ read (recordAt s (at + 24 * i))
+  record-of s at zero i d h = absurd (omega arith)
+  record-of s at (suc count) zero d h = let z : at + 24 * 0 ≡ at = omega arith in rw z
+  record-of s at (suc count) (suc i) d h =
+      let m : at + 24 * suc i ≡ at + 24 + 24 * i = omega arith in
+      rw m (record-of s (at + 24) count i d (omega arith))
+
+  -- what is told of each
+  pub records-map : {B : Type 0} (tell : A → B) (s : List ℕ) (at count : ℕ)
+      → recordsFrom (λ (b : List ℕ). tell (read b)) s at count ≡ map tell (recordsFrom read s at count)
+  records-map tell s at zero = refl
+  records-map tell s at (suc count) = rw (records-map tell s (at + 24) count)
+
+  -- in the bytes from an offset on
+  pub records-drop : (s : List ℕ) (from at count : ℕ) → recordsFrom read (drop from s) at count ≡ recordsFrom read s (from + at) count
+  records-drop s from at zero = refl
+  records-drop s from at (suc count) = rw (drop-drop at from s, records-drop s from (at + 24) count, add-assoc from at 24)
+
+  pub records-fit : {P : A → Type 0} → ((b : List ℕ) → AreBytes b → P (read b)) → {s : List ℕ} → AreBytes s → (at count : ℕ) → Each P (recordsFrom read s at count)
   records-fit fits are at zero = none
   records-fit fits are at (suc count) = more (fits _ (record-below at are)) (records-fit fits are (at + 24) count)
 
   module _ (write : A → List ℕ) where
     -- what was written is read, where it stands
-    records-read : {P : A → Type 0} → ((a : A) → length (write a) ≡ 24) → ((a : A) → P a → read (write a) ≡ a) → (xs : List A) → Each P xs
+    pub records-read : {P : A → Type 0} → ((a : A) → length (write a) ≡ 24) → ((a : A) → P a → read (write a) ≡ a) → (xs : List A) → Each P xs
         → (s rest : List ℕ) (at : ℕ) → drop at s ≡ flatMap write xs ++ rest → recordsFrom read s at (length xs) ≡ xs
     unfolding flatMap
     records-read size back [] none s rest at e = refl
@@ -41,7 +61,7 @@ module _ {A : Type 0} (read : List ℕ → A) where
         rw (f, take-at (write a) (flatMap write xs ++ rest) 24 (size a), back a p, records-read size back xs ps s rest (at + 24) after)
 
     -- what was read is written
-    records-written : ((b : List ℕ) → length b ≡ 24 → AreBytes b → write (read b) ≡ b) → (s : List ℕ) → AreBytes s → (at count : ℕ) → at + 24 * count ≤ length s
+    pub records-written : ((b : List ℕ) → length b ≡ 24 → AreBytes b → write (read b) ≡ b) → (s : List ℕ) → AreBytes s → (at count : ℕ) → at + 24 * count ≤ length s
         → flatMap write (recordsFrom read s at count) ≡ take (24 * count) (drop at s)
     unfolding flatMap
     records-written back s are at zero h = refl

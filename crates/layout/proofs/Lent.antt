@@ -1,10 +1,12 @@
 -- Bytes put into a lent buffer: one piece after the other is both at once, and the buffer keeps its length. And the two ways in which
 -- a tool ends that fills one. Assumes nothing.
-use Prim.Native.Nat.{ℕ, _≤_}
+use Prim.Native.Nat.{ℕ, _<_, _≤_}
 use native.Mathlib.Omega.{arith}
+use mathlib.Core.Bool.{Bool, true, false, cond}
 use mathlib.Core.List.{List, [], _++_}
 use mathlib.Core.Path.{_≡_, refl, sym, _∙_}
-use borrow.Author.Tests.{ne-eqb}
+use borrow.Author.Tests.{eqb-true, ne-eqb}
+use lib.Dec.{eqb}
 use lib.ListN.{length, length-append, length-take, length-drop}
 use Rattle.layout.specs.Lent.{Puts, Fills}
 use Rattle.fields.proofs.Splices.{splice-none, next}
@@ -28,6 +30,11 @@ module _ {old : List ℕ} {at : ℕ} {bytes out : List ℕ} {past : ℕ} (p : Pu
         stands = q .stands ∙ rw (p .stands, e) (next old bytes more at (length bytes) refl (omega arith));
       }
 
+-- ---- a status is 0 where one test before the others is passed, and theirs is 0
+pub status-passed : (b : Bool) {rest number : ℕ} → 0 < number → cond b rest number ≡ 0 → (b ≡ true) × (rest ≡ 0)
+status-passed true h z = (refl, z)
+status-passed false h z = absurd (omega arith)
+
 -- ---- how a tool ends that fills a buffer, as its status says
 module _ {due : ℕ} {bytes old : List ℕ} {status : ℕ} (e : status ≡ due) where
   pub turned-away : (status ≡ 0 → ⊥) → Fills due bytes old status 0 old
@@ -50,3 +57,11 @@ module _ {due : ℕ} {bytes old : List ℕ} {status written : ℕ} {out : List �
 
   pub fills-kept : (due ≡ 0 → ⊥) → (written ≡ 0) × (out ≡ old)
   fills-kept n = let m = ne-eqb due 0 n in (rw m at (f .counted), rw m at (f .stands))
+
+  -- either way what was written lies in the buffer
+  pub fills-within : written ≤ length old
+  fills-within = go (eqb due 0) refl
+    where
+      go : (b : Bool) → eqb due 0 ≡ b → written ≤ length old
+      go true e = fills-puts (eqb-true due 0 e) .room
+      go false e = let z : written ≡ 0 = rw e at (f .counted) in omega arith

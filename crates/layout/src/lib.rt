@@ -1,4 +1,5 @@
-// The records of document 01's session file as bytes: numbers at fixed places, the lowest byte first, 24 bytes a record.
+// The records of document 01's session file as bytes: numbers at fixed places, the lowest byte first, 24 bytes a record. And how a tool
+// ends that fills a lent buffer.
 pub mod records;
 
 // A sheet as the file has it, whether or not a sheet may be so.
@@ -32,4 +33,11 @@ pub struct AnswerRecord {
     pub m: u32,
     pub x: i64,
     pub y: i64,
+}
+
+// How a tool ended that fills a lent buffer: 0, or the number with which it was turned away; and how many bytes it wrote from the buffer's
+// start.
+pub struct Filled {
+    pub status: u8,
+    pub written: usize,
 }

@@ -7,7 +7,7 @@ ghost use Rattle.session.specs.Run.{FillsAs};
 ghost use Rattle.printing.specs.Text.{refusedLine, printedOf};
 use forms::Form;
 use layout::AnswerRecord;
-use session::run::Ran;
+use layout::Filled;
 use session::run::fill;
 use text::put_line;
 
@@ -27,7 +27,7 @@ pub fn print(file: &[u8], out: &mut [u8; 194400]) -> usize
 }
 
 // Puts a line for each event of a file at the start of a lent buffer. A refused file leaves it as it was.
-pub fn lines(file: &[u8], out: &mut [u8]) -> Ran
+pub fn lines(file: &[u8], out: &mut [u8]) -> Filled
     ensures { λ r. ⌜ FillsAs Form.Lines (now (file .entry)) (now (out .entry)) (r .status) (r .written) (now (out .exit)) ⌝ }
 {
     fill(Form::Lines, file, out)

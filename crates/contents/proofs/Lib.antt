@@ -1,0 +1,5 @@
+pub mod Planned
+pub mod Lookups
+pub mod RoundTrip
+pub mod Packed
+pub mod Repacked

@@ -1,0 +1,4 @@
+pub mod Plan
+pub mod Contents
+pub mod Packed
+pub mod Repacked

@@ -5,12 +5,13 @@
  * zero, read a sample, ...); README.md has its bytes, under "The session file".
  * irga_run answers each event with a record of 24 bytes; irga_reading and irga_area take
  * the numbers out of such a record as doubles; irga_lines gives the same answers as text.
+ * irga_write makes a session file, so that a lesson can be prepared in advance.
  *
  * The library is libhost.a, for x86-64 Linux. It calls no other library:
  *
  *     cc -std=c99 -Iinclude examples/readings.c target/staticlib/libhost.a -o readings
  *
- * What holds for all four functions:
+ * What holds for all five functions:
  *
  * - No state is kept between calls and nothing is allocated. Any number of threads may
  *   call at once, as long as nothing that a call is lent is written by anyone else until
@@ -18,8 +19,8 @@
  * - A call takes less than 10,000 bytes of stack, as the tests measure it (it is not
  *   proved); give it 16 KiB.
  * - No pointer may be NULL, not even with a length of 0, and the places that are lent to
- *   one call may not overlap.
- * - File, answer and output are bytes and need no alignment; size_t and double objects
+ *   one call may not overlap; a place of 0 bytes overlaps none.
+ * - Files, records and outputs are bytes and need no alignment; size_t and double objects
  *   have their usual one.
  * - Only the places named as written are written; a function reads no byte beyond the
  *   lengths that it is given.
@@ -50,6 +51,24 @@ extern "C" {
 #define IRGA_ANSWERS_MAX 64800
 #define IRGA_LINES_MAX 194400
 
+/* Where the fields of a sheet begin. Bytes 20 to 23 are zero. */
+#define IRGA_SHEET_A1 0  /* i32 */
+#define IRGA_SHEET_A2 4  /* i32 */
+#define IRGA_SHEET_A3 8  /* i32 */
+#define IRGA_SHEET_T0 12 /* u32 */
+#define IRGA_SHEET_K 16  /* u32 */
+
+/*
+ * Where the fields of an event begin. Bytes 1 to 3 are zero, and so is every field that its
+ * kind does not have: see enum irga_kind.
+ */
+#define IRGA_EVENT_KIND 0 /* u8: an enum irga_kind */
+#define IRGA_EVENT_RAW 4  /* i32: the raw signal */
+#define IRGA_EVENT_C 8    /* u32: the cylinder; of a load, the sheet's index from 0 */
+#define IRGA_EVENT_P 12   /* u32: pressure */
+#define IRGA_EVENT_T 16   /* u32: temperature */
+#define IRGA_EVENT_E 20   /* u32: vapour pressure */
+
 /* Where the fields of an answer begin. Bytes 2 and 3 are zero. */
 #define IRGA_ANSWER_KIND 0    /* u8: the event's kind as it stood in the file */
 #define IRGA_ANSWER_REFUSAL 1 /* u8: 0 if accepted, else an enum irga_refusal */
@@ -58,22 +77,28 @@ extern "C" {
 #define IRGA_ANSWER_Y 16      /* i64 */
 
 /*
- * The kinds of event, and what an accepted one answers; fields not named are 0.
- * Signals are in 100 nV, mole fractions in pmol/mol (10^6 of them are 1 umol/mol).
+ * The kinds of event, with the fields that each has, and what an accepted one answers; fields
+ * of an answer that are not named are 0. Signals are in 100 nV, mole fractions and cylinders
+ * in pmol/mol (10^6 of them are 1 umol/mol), pressures in Pa, temperatures in hundredths of a
+ * kelvin.
  */
 enum irga_kind {
-    IRGA_LOAD = 1,      /* load a calibration sheet */
-    IRGA_ZERO = 2,      /* set the zero. x: the zero, a signal */
-    IRGA_SPAN = 3,      /* set the span. m: the span, in millionths */
-    IRGA_REFERENCE = 4, /* read against a reference gas from now on */
+    IRGA_LOAD = 1,      /* C: load a calibration sheet */
+    IRGA_ZERO = 2,      /* raw: set the zero. x: the zero, a signal */
+    IRGA_SPAN = 3,      /* raw, C, P, T, e: set the span. m: the span, in millionths */
+    IRGA_REFERENCE = 4, /* C, e: read against a reference gas from now on */
     IRGA_ABSOLUTE = 5,  /* read against nothing from now on */
-    IRGA_SAMPLE = 6,    /* m: reference signal, 0 in absolute mode; x: wet; y: dry */
+    IRGA_SAMPLE = 6,    /* raw, P, T, e: read a sample. m: reference signal, 0 in absolute mode;
+                           x: wet; y: dry */
     IRGA_START = 7,     /* start an integration; a reading counts for 0.2 s */
     IRGA_STOP = 8,      /* stop it */
     IRGA_AREA = 9       /* m: readings counted; x: area, in pmol/mol times 0.1 s */
 };
 
-/* Why an event (1 to 11), a file (12) or an output (13) is refused. */
+/*
+ * Why an event (1 to 11), a file (12) or an output (13) is refused, and why nothing is
+ * written of sheets and events (11, 14, 15).
+ */
 enum irga_refusal {
     IRGA_ACCEPTED = 0,
     IRGA_NO_SHEET = 1,             /* no sheet loaded, or its index not in the file */
@@ -88,9 +113,13 @@ enum irga_refusal {
     IRGA_NO_REFERENCE_SIGNAL = 9,  /* no signal reads the reference cylinder */
     IRGA_NOT_NOW = 10,             /* the event does not fit the mode or the integration */
     IRGA_MALFORMED_EVENT = 11,     /* unknown kind, or a byte of the event that must be zero
-                                      and is not */
+                                      and is not; in irga_write also a length that is no
+                                      multiple of 24, or such a byte of a sheet */
     IRGA_MALFORMED_FILE = 12,      /* header or length not as the format says */
-    IRGA_OUTPUT_TOO_SHORT = 13     /* the output is shorter than the function asks */
+    IRGA_OUTPUT_TOO_SHORT = 13,    /* the output is shorter than the function asks */
+    IRGA_TOO_MANY = 14,            /* more than 16 sheets or 2,700 events */
+    IRGA_NO_ROOM = 15              /* the buffer is shorter than the file that is to be
+                                      written */
 };
 
 /*
@@ -163,6 +192,33 @@ uint8_t irga_reading(const uint8_t *answer, size_t answer_length,
  * Touches: the double if it returns 0, and nothing else.
  */
 uint8_t irga_area(const uint8_t *answer, size_t answer_length, double *area);
+
+/*
+ * Writes a session file: a header, then the sheets and the events as they are given.
+ *
+ * sheets, sheets_length   the sheets, 24 bytes each, none to IRGA_SHEETS_MAX of them; with
+ *                         none, any pointer but NULL
+ * events, events_length   the events, 24 bytes each, none to IRGA_EVENTS_MAX of them; the same
+ * out, out_length         where the file goes; 16 + sheets_length + events_length bytes are
+ *                         enough, and IRGA_FILE_MAX always are
+ * written                 gets the length of the file
+ *
+ * Returns IRGA_ACCEPTED or, the first that applies:
+ *   IRGA_TOO_MANY         sheets_length above 24 * IRGA_SHEETS_MAX or events_length above
+ *                         24 * IRGA_EVENTS_MAX
+ *   IRGA_MALFORMED_EVENT  a length that is no multiple of 24, an event of an unknown kind, or
+ *                         a byte of a sheet or an event that must be zero and is not
+ *   IRGA_NO_ROOM          out_length below 16 + sheets_length + events_length
+ *
+ * No limit of a number is looked at, nor whether a sheet with a load's index is there: such a
+ * number is written as given, and a run of the file refuses the event that uses it.
+ *
+ * Touches: with 0, the first *written bytes of out, 16 + sheets_length + events_length; with
+ * 11, 14 or 15, *written is 0. All other bytes of out stay.
+ */
+uint8_t irga_write(const uint8_t *sheets, size_t sheets_length,
+                   const uint8_t *events, size_t events_length,
+                   uint8_t *out, size_t out_length, size_t *written);
 
 #ifdef __cplusplus
 }

@@ -3,10 +3,12 @@ ghost use mathlib.Core.Path.{_≡_};
 ghost use lib.ListN.{getD};
 ghost use Rattle.forms.specs.declared.Form.{Form};
 ghost use Rattle.session.specs.Run.{FillsAs};
+ghost use Rattle.packing.specs.Write.{FillsPacked};
 ghost use Rattle.doubles.specs.Doubles.{hostRefusal, hostValues, hostSampleIn, hostAreaIn};
 use doubles::HostAnswer;
 use doubles::answers::area_in;
 use doubles::answers::sample_in;
+use packing::write_records;
 use printing::lines;
 use session::run::run;
 
@@ -70,4 +72,20 @@ pub extern "C" fn irga_area(answer: &[u8], area: &mut f64) -> u8
         HostAnswer::Reading(_) => 11,
         HostAnswer::Refused(number) => number,
     }
+}
+
+// Writes the session file of sheets and events, the bytes of their records, into `out`: 0, or 14, 11 or 15, which leaves `out` as it was.
+// `written` becomes the length of the file, 0 if it was turned away.
+#[no_mangle]
+pub extern "C" fn irga_write(
+    sheets: &[u8],
+    events: &[u8],
+    out: &mut [u8],
+    written: &mut usize,
+) -> u8
+    ensures { λ r. ⌜ FillsPacked (now (sheets .entry)) (now (events .entry)) (now (out .entry)) r (now (written .exit)) (now (out .exit)) ⌝ }
+{
+    let done = write_records(sheets, events, out);
+    *written = done.written;
+    done.status
 }

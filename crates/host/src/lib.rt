@@ -1,2 +1,2 @@
-// What a host links: a session file run into a lent buffer, and its answers as doubles.
+// What a host links: a session file run into a lent buffer, its answers as doubles, and a session file written.
 pub mod exports;

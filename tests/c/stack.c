@@ -1,7 +1,9 @@
 /*
- * stack SESSION...: the most bytes of stack that irga_run and irga_lines took over the
- * sessions. Each call runs on a stack of its own that was filled with one byte before; what
- * still has that byte was not touched. The few bytes that entering takes are counted too.
+ * stack SESSION...: the most bytes of stack that irga_run, irga_lines and irga_write took over
+ * the sessions, each in a line of its own; irga_write makes each of them again from its records,
+ * and how many came out as they were is the last line.
+ * Each call runs on a stack of its own that was filled with one byte before; what still has that
+ * byte was not touched. The few bytes that entering takes are counted too.
  */
 #define _XOPEN_SOURCE 700
 #include <stdio.h>
@@ -13,11 +15,24 @@
 enum { STACK_BYTES = 1 << 18, PAINT = 0xA5 };
 
 static uint8_t stack[STACK_BYTES], file[IRGA_FILE_MAX + 1], out[IRGA_LINES_MAX];
-static size_t length, written;
+static size_t length, written, made;
 static ucontext_t here, there;
 
 static void run(void) { irga_run(file, length, out, sizeof out, &written); }
 static void lines(void) { irga_lines(file, length, out, sizeof out, &written); }
+
+/* A header of 16 bytes begins with the sheet count, at most 16, so that its first byte has it. */
+static void plan(void) {
+    const uint8_t *sheets = file + IRGA_HEADER_BYTES;
+    size_t sheets_length = (size_t)file[0] * IRGA_RECORD_BYTES;
+    const uint8_t *events = sheets + sheets_length;
+    uint8_t status = irga_write(sheets, sheets_length, events, (size_t)(file + length - events),
+                                out, sizeof out, &written);
+    made += status == IRGA_ACCEPTED && written == length && memcmp(out, file, length) == 0;
+}
+
+static void (*const calls[])(void) = {run, lines, plan};
+enum { CALLS = sizeof calls / sizeof calls[0] };
 
 static size_t taken_by(void (*call)(void)) {
     size_t untouched = 0;
@@ -34,20 +49,21 @@ static size_t taken_by(void (*call)(void)) {
 }
 
 int main(int count, char **words) {
-    size_t most = 0;
-    int word;
+    size_t most[CALLS] = {0};
+    int word, call;
     for (word = 1; word < count; word++) {
         FILE *in = fopen(words[word], "rb");
-        size_t by_run, by_lines;
         if (in == NULL)
             return 1;
         length = fread(file, 1, sizeof file, in);
         fclose(in);
-        by_run = taken_by(run);
-        by_lines = taken_by(lines);
-        most = by_run > most ? by_run : most;
-        most = by_lines > most ? by_lines : most;
+        for (call = 0; call < CALLS; call++) {
+            size_t taken = taken_by(calls[call]);
+            most[call] = taken > most[call] ? taken : most[call];
+        }
     }
-    printf("%lu\n", (unsigned long)most);
+    for (call = 0; call < CALLS; call++)
+        printf("%lu\n", (unsigned long)most[call]);
+    printf("%lu\n", (unsigned long)made);
     return 0;
 }

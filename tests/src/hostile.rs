@@ -1,9 +1,12 @@
 //! Files that are wrong in one thing: each bit that must be zero, set by itself, and headers
-//! whose sums come out right only if they wrap in 32 bits.
+//! whose sums come out right only if they wrap in 32 bits. Plans likewise, and plans of
+//! every length that matters.
 
 use crate::bench;
 use crate::engine::{Event, SheetRecord};
-use crate::file::{EventRecord, Session, HEADER_BYTES, RECORD_BYTES, SHEETS_LIMIT};
+use crate::file::{EventRecord, Outcome, Records, Session};
+use crate::file::{EVENTS_LIMIT, HEADER_BYTES, RECORD_BYTES, SHEETS_LIMIT};
+use crate::plan::Writer;
 
 /// An event that goes well with the bench sheet, and the offsets of the fields that document
 /// 01 gives to its kind. Every other byte after the first must be zero.
@@ -164,6 +167,98 @@ pub fn wrapping_headers() -> Vec<Vec<u8>> {
     }
     files.extend([0, 8, 24, 32, 48].map(|events_at| early_events(events_at, 2)));
     files
+}
+
+/// A plan as records, the room for its file, and the status that is owed to it.
+pub struct OwedPlan {
+    pub records: Records,
+    pub room: usize,
+    pub status: u8,
+}
+
+impl OwedPlan {
+    /// Checks status, length and every byte of the lent buffer.
+    pub fn check(&self, write: Writer) -> Result<(), String> {
+        let old: Vec<u8> = (0..self.room).map(|at| (at * 151 + 90) as u8).collect();
+        let mut out = old.clone();
+        let outcome = write(&self.records, &mut out);
+        let written = if self.status == 0 { self.records.file_bytes() } else { 0 };
+        let expected = Outcome { status: self.status, written };
+        let (file, rest) = out.split_at(written);
+        let fault = if outcome != expected {
+            format!("expected {expected:?}, was given {outcome:?}")
+        } else if rest != &old[written..] {
+            "bytes that were to stay are others".to_string()
+        } else if written > 0 && Records::of_file(file).as_ref() != Some(&self.records) {
+            "the file has other records".to_string()
+        } else {
+            return Ok(());
+        };
+        let Records { sheets, events } = &self.records;
+        let lengths = [sheets.len(), events.len(), self.room];
+        Err(format!("sheets, events and room of {lengths:?} bytes: {fault}"))
+    }
+}
+
+/// One sheet or one event with a bit set that must be zero, and the sound ones that stand beside
+/// such in their file.
+fn plans_of_one_record() -> Vec<OwedPlan> {
+    let mut plans = Vec::new();
+    let mut push = |records: Records, status: u8| {
+        plans.push(OwedPlan { room: records.file_bytes(), records, status });
+    };
+    for Spoilt { file, owed } in bits_that_must_be_zero() {
+        let Session { sheets, events } = Session::open(&file).expect("a sound header");
+        for (event, owed) in events.into_iter().zip(owed) {
+            let one = Session { sheets: Vec::new(), events: vec![event] };
+            push(one.records(), if owed == Some(11) { 11 } else { 0 });
+        }
+        for sheet in sheets {
+            let one = Session { sheets: vec![sheet], events: Vec::new() };
+            push(one.records(), if sheet.rest == 0 { 0 } else { 11 });
+        }
+    }
+    plans
+}
+
+/// Lists of sound records, at the ends of their lengths and beside them, and so long that a
+/// count in 8 or 16 bits wraps; each with room to spare, just enough and too little.
+fn plans_by_length() -> impl Iterator<Item = OwedPlan> {
+    let limits = [SHEETS_LIMIT, EVENTS_LIMIT].map(|limit| RECORD_BYTES * limit);
+    let [sheets, events] = limits.map(|limit| {
+        let record = RECORD_BYTES;
+        let beside = [limit - record, limit - 1, limit, limit + 1, limit + record];
+        let wraps = [257 * record, 65_537 * record];
+        [&[0, 1, record - 1, record, record + 1, 2 * record], &beside[..], &wraps].concat()
+    });
+    let pairs = sheets
+        .into_iter()
+        .flat_map(move |sheets| events.clone().into_iter().map(move |events| [sheets, events]));
+    pairs.flat_map(move |lengths| plans_of_lengths(lengths, limits))
+}
+
+fn plans_of_lengths(lengths: [usize; 2], limits: [usize; 2]) -> [OwedPlan; 4] {
+    let start = EventRecord::of(&Event::Start).to_bytes();
+    let records = Records {
+        sheets: vec![0; lengths[0]],
+        events: start.into_iter().cycle().take(lengths[1]).collect(),
+    };
+    let file = records.file_bytes();
+    let many = (0..2).any(|list| lengths[list] > limits[list]);
+    let cut = lengths.iter().any(|length| length % RECORD_BYTES != 0);
+    let status = |room: usize| match (many, cut, room < file) {
+        (true, _, _) => 14,
+        (_, true, _) => 11,
+        (_, _, true) => 15,
+        _ => 0,
+    };
+    let plan = |room| OwedPlan { records: records.clone(), room, status: status(room) };
+    [0, file - 1, file, file + 1].map(plan)
+}
+
+/// Plans with what is owed to them, made one after the other: some are long.
+pub fn plans() -> impl Iterator<Item = OwedPlan> {
+    plans_of_one_record().into_iter().chain(plans_by_length())
 }
 
 #[cfg(test)]

@@ -6,6 +6,7 @@
 use crate::bench;
 use crate::engine::Event;
 use crate::file::{EventRecord, Session};
+use crate::plan::Plan;
 
 /// Pressure, temperature and vapour pressure in the chamber.
 pub const CHAMBER: (u32, u32, u32) = (99_500, 29_815, 1_600);
@@ -42,4 +43,17 @@ pub fn session() -> Session {
         sheets: vec![bench::table_sheet()],
         events: events().iter().map(EventRecord::of).collect(),
     }
+}
+
+/// The lesson of `examples/plan.c`: document 01's bench sheet, and three of its bench readings
+/// against a reference.
+pub fn desk() -> Plan {
+    let sample = |raw| Event::Sample { raw, p: 101_300, t: 29_815, e: 0 };
+    let bench = Session { sheets: vec![bench::sheet()], events: Vec::new() };
+    let Plan { sheets, .. } = Plan::of(&bench).expect("the bench's sheet can be planned");
+    let mut events = vec![Event::Load { index: 0 }];
+    events.extend([Event::Reference { cylinder: 1_000_000_000, e: 0 }, Event::Start]);
+    events.extend([0, 10_000_000, 0].map(sample));
+    events.extend([Event::Stop, Event::Area]);
+    Plan { sheets, events }
 }

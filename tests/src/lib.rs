@@ -1,11 +1,12 @@
-//! A second implementation of the analyser engine, its rules written from document 01
-//! alone, so that two readings of the same paper can be held against each other.
+//! A second implementation of the analyser engine, its rules written from documents 01
+//! and 02 alone, so that two readings of the same paper can be held against each other.
 //!
 //! `rules` is the arithmetic, `engine` the nine events, `file` the session file
-//! and the program. `big`, `exact` and `ledger` are the other side of demand 3:
-//! equation (11) in exact fractions and the ledger that walks beside the engine.
-//! `random` and `sessions` invent lessons, `hostile` spoils one thing at a time, and
-//! `harness` compares an engine with this one over many of them. `bench` holds the
+//! and the program, `plan` a session file written in advance. `big`, `exact` and `ledger`
+//! are the other side of demand 3: equation (11) in exact fractions and the ledger that
+//! walks beside the engine. `random` and `sessions` invent lessons and plans, `hostile`
+//! spoils one thing at a time, and `harness` compares an engine or a writer with this one
+//! over many of them. `bench` holds the
 //! readings and the maker's table that the papers give, and `worst` looks for the
 //! readings with the largest errors. `drift` sets the old program's area beside ours,
 //! and `figures` writes numbers for tables. With the feature of its name, `library` is
@@ -26,6 +27,7 @@ pub mod ledger;
 pub mod lesson;
 #[cfg(feature = "library")]
 pub mod library;
+pub mod plan;
 pub mod random;
 pub mod rules;
 pub mod sessions;

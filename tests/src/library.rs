@@ -1,10 +1,10 @@
-//! The proved library: its four C functions as declared in include/irga.h, and a safe
+//! The proved library: its five C functions as declared in include/irga.h, and a safe
 //! function over each. Slices and references meet what the header asks: no pointer is
 //! NULL, and places that are written overlap no other.
 
 use std::os::raw::c_double;
 
-use crate::file::Outcome;
+use crate::file::{Outcome, Records};
 
 extern "C" {
     fn irga_run(
@@ -32,15 +32,27 @@ extern "C" {
     ) -> u8;
 
     fn irga_area(answer: *const u8, answer_length: usize, area: *mut c_double) -> u8;
+
+    fn irga_write(
+        sheets: *const u8,
+        sheets_length: usize,
+        events: *const u8,
+        events_length: usize,
+        out: *mut u8,
+        out_length: usize,
+        written: *mut usize,
+    ) -> u8;
 }
+
+/// No length of anything, so that a call that leaves it shows.
+const UNWRITTEN: usize = usize::MAX;
 
 type OverLent = unsafe extern "C" fn(*const u8, usize, *mut u8, usize, *mut usize) -> u8;
 
 /// Calls one of the two functions over a lent file and a lent output.
 #[allow(unsafe_code)]
 fn over_lent(function: OverLent, file: &[u8], output: &mut [u8]) -> Outcome {
-    // No length of anything, so that a call that leaves it shows.
-    let mut written = usize::MAX;
+    let mut written = UNWRITTEN;
     let (out, room) = (output.as_mut_ptr(), output.len());
     let status = unsafe { function(file.as_ptr(), file.len(), out, room, &mut written) };
     Outcome { status, written }
@@ -66,4 +78,23 @@ pub fn reading(answer: &[u8], [wet, dry, signal]: &mut [f64; 3]) -> u8 {
 #[allow(unsafe_code)]
 pub fn area(answer: &[u8], area: &mut f64) -> u8 {
     unsafe { irga_area(answer.as_ptr(), answer.len(), area) }
+}
+
+/// Writes records from the start of the lent output as a session file.
+#[allow(unsafe_code)]
+pub fn write(Records { sheets, events }: &Records, output: &mut [u8]) -> Outcome {
+    let mut written = UNWRITTEN;
+    let (out, room) = (output.as_mut_ptr(), output.len());
+    let status = unsafe {
+        irga_write(
+            sheets.as_ptr(),
+            sheets.len(),
+            events.as_ptr(),
+            events.len(),
+            out,
+            room,
+            &mut written,
+        )
+    };
+    Outcome { status, written }
 }

@@ -1,14 +1,16 @@
-//! What a C or C++ compiler makes of include/irga.h, and examples/readings.c linked with
-//! the archive: its figures are those of the lines, of this implementation and of the
-//! program that IRGA_PROGRAM names.
+//! What a C or C++ compiler makes of include/irga.h, and the examples linked with the
+//! archive: figures and lines are those of this implementation and of the program that
+//! IRGA_PROGRAM names.
 
 use std::collections::HashMap;
 use std::fs::{self, File};
 use std::path::{Path, PathBuf};
 use std::process::{Command, Output, Stdio};
 
+use irga_tests::bench;
 use irga_tests::file::{self, Session};
 use irga_tests::harness::{Executable, Program};
+use irga_tests::lesson;
 use irga_tests::random::Random;
 use irga_tests::rules::Refusal;
 use irga_tests::sessions::{self, PROFILES};
@@ -68,16 +70,53 @@ fn archive_asks_for_nothing() {
 /// As many sheets and events as a file may have.
 fn longest() -> Session {
     Session {
-        sheets: vec![irga_tests::bench::sheet(); file::SHEETS_LIMIT],
+        sheets: vec![bench::sheet(); file::SHEETS_LIMIT],
         events: vec![Default::default(); file::EVENTS_LIMIT],
     }
 }
 
+/// Where document 01 has the fields of a record.
+const OFFSETS: [(&str, usize); 16] = [
+    ("IRGA_SHEET_A1", 0),
+    ("IRGA_SHEET_A2", 4),
+    ("IRGA_SHEET_A3", 8),
+    ("IRGA_SHEET_T0", 12),
+    ("IRGA_SHEET_K", 16),
+    ("IRGA_EVENT_KIND", 0),
+    ("IRGA_EVENT_RAW", 4),
+    ("IRGA_EVENT_C", 8),
+    ("IRGA_EVENT_P", 12),
+    ("IRGA_EVENT_T", 16),
+    ("IRGA_EVENT_E", 20),
+    ("IRGA_ANSWER_KIND", 0),
+    ("IRGA_ANSWER_REFUSAL", 1),
+    ("IRGA_ANSWER_M", 4),
+    ("IRGA_ANSWER_X", 8),
+    ("IRGA_ANSWER_Y", 16),
+];
+
+const REFUSALS: [(&str, Refusal); 15] = [
+    ("IRGA_NO_SHEET", Refusal::NoSheet),
+    ("IRGA_SHEET_LIMITS", Refusal::SheetOutsideLimits),
+    ("IRGA_ZERO_RANGE", Refusal::ZeroOutsideRange),
+    ("IRGA_CYLINDER_RANGE", Refusal::CylinderOutsideRange),
+    ("IRGA_NO_SPAN", Refusal::NoSpanServes),
+    ("IRGA_INPUT_LIMITS", Refusal::InputOutsideLimits),
+    ("IRGA_BELOW_ZERO", Refusal::BelowZero),
+    ("IRGA_OVER_RANGE", Refusal::OverRange),
+    ("IRGA_NO_REFERENCE_SIGNAL", Refusal::NoReferenceSignal),
+    ("IRGA_NOT_NOW", Refusal::NotNow),
+    ("IRGA_MALFORMED_EVENT", Refusal::MalformedEvent),
+    ("IRGA_MALFORMED_FILE", Refusal::MalformedFile),
+    ("IRGA_OUTPUT_TOO_SHORT", Refusal::OutputTooShort),
+    ("IRGA_TOO_MANY", Refusal::TooMany),
+    ("IRGA_NO_ROOM", Refusal::NoRoom),
+];
+
 /// The header's constants by name, and what this implementation or document 01 has.
 fn constants() -> Vec<(&'static str, usize)> {
     let (sheets, events) = (file::SHEETS_LIMIT, file::EVENTS_LIMIT);
-    let refusal = |refusal: Refusal| usize::from(refusal.number());
-    vec![
+    let mut constants = vec![
         ("IRGA_HEADER_BYTES", file::HEADER_BYTES),
         ("IRGA_RECORD_BYTES", file::RECORD_BYTES),
         ("IRGA_LINE_ROOM", file::LINE_ROOM),
@@ -86,26 +125,11 @@ fn constants() -> Vec<(&'static str, usize)> {
         ("IRGA_FILE_MAX", longest().to_bytes().len()),
         ("IRGA_ANSWERS_MAX", file::RECORD_BYTES * events),
         ("IRGA_LINES_MAX", file::LINE_ROOM * events),
-        ("IRGA_ANSWER_KIND", 0),
-        ("IRGA_ANSWER_REFUSAL", 1),
-        ("IRGA_ANSWER_M", 4),
-        ("IRGA_ANSWER_X", 8),
-        ("IRGA_ANSWER_Y", 16),
         ("IRGA_ACCEPTED", 0),
-        ("IRGA_NO_SHEET", refusal(Refusal::NoSheet)),
-        ("IRGA_SHEET_LIMITS", refusal(Refusal::SheetOutsideLimits)),
-        ("IRGA_ZERO_RANGE", refusal(Refusal::ZeroOutsideRange)),
-        ("IRGA_CYLINDER_RANGE", refusal(Refusal::CylinderOutsideRange)),
-        ("IRGA_NO_SPAN", refusal(Refusal::NoSpanServes)),
-        ("IRGA_INPUT_LIMITS", refusal(Refusal::InputOutsideLimits)),
-        ("IRGA_BELOW_ZERO", refusal(Refusal::BelowZero)),
-        ("IRGA_OVER_RANGE", refusal(Refusal::OverRange)),
-        ("IRGA_NO_REFERENCE_SIGNAL", refusal(Refusal::NoReferenceSignal)),
-        ("IRGA_NOT_NOW", refusal(Refusal::NotNow)),
-        ("IRGA_MALFORMED_EVENT", refusal(Refusal::MalformedEvent)),
-        ("IRGA_MALFORMED_FILE", refusal(Refusal::MalformedFile)),
-        ("IRGA_OUTPUT_TOO_SHORT", refusal(Refusal::OutputTooShort)),
-    ]
+    ];
+    constants.extend(OFFSETS);
+    constants.extend(REFUSALS.map(|(name, refusal)| (name, usize::from(refusal.number()))));
+    constants
 }
 
 /// Names of the kinds in document 01's order.
@@ -126,35 +150,40 @@ fn constants_are_those_of_the_format() {
     compile(C, &["-fsyntax-only", path.to_str().expect("a path in UTF-8")]);
 }
 
-/// A program that calls all four functions and gives their sum of statuses: 12 + 12 for a
-/// file of one byte, 11 + 11 for an answer of one.
+/// A program that calls all five functions and gives their sum of statuses: 12 + 12 for a
+/// file of one byte, 11 + 11 for an answer of one, 11 for an event of one.
 const CALLS: &str = r#"
 #include "irga.h"
 int main(void) {
-    uint8_t byte = 0, out = 7;
-    size_t written = 1;
+    uint8_t byte = 0, other = 0, out = 7;
+    size_t written = 1, planned = 1;
     double a = 1, b = 2, c = 3;
     int sum = irga_run(&byte, 1, &out, 1, &written);
     sum += irga_lines(&byte, 1, &out, 1, &written);
     sum += irga_reading(&byte, 1, &a, &b, &c);
     sum += irga_area(&byte, 1, &a);
-    return written == 0 && out == 7 && a == 1 && b == 2 && c == 3 ? sum : 0;
+    sum += irga_write(&byte, 0, &other, 1, &out, 1, &planned);
+    return written == 0 && planned == 0 && out == 7 && a == 1 && b == 2 && c == 3 ? sum : 0;
 }
 "#;
 
 #[test]
-fn all_four_functions_link_from_c_and_from_cpp() {
+fn all_five_functions_link_from_c_and_from_cpp() {
     for (compiler, name) in [(C, "calls.c"), (CPP, "calls.cpp")] {
         let status = Command::new(link(compiler, name, CALLS)).status();
         let status = status.expect("the program starts").code();
-        assert_eq!(status, Some(12 + 12 + 11 + 11), "{name}");
+        assert_eq!(status, Some(12 + 12 + 11 + 11 + 11), "{name}");
     }
 }
 
-/// examples/readings.c, compiled for one test.
+/// A program of examples/, compiled for one test.
+fn example(name: &str, test: &str) -> PathBuf {
+    let source = fs::read_to_string(repository().join(format!("examples/{name}.c")));
+    link(C, &format!("{name}-{test}.c"), &source.expect("the example is there"))
+}
+
 fn readings(test: &str) -> PathBuf {
-    let source = fs::read_to_string(repository().join("examples/readings.c"));
-    link(C, &format!("readings-{test}.c"), &source.expect("the example is there"))
+    example("readings", test)
 }
 
 fn run(program: &Path, words: &[&Path], input: Option<&Path>) -> Output {
@@ -289,7 +318,8 @@ fn readings_of_what_is_no_session() {
     assert_said(&run(&program, &[], None), 1, "refused 12, ");
 }
 
-/// What include/irga.h says of the stack, over the lesson and sessions of every profile.
+/// What include/irga.h says of the stack, over the lesson and sessions of every profile: run and
+/// read as lines, and written again from their records.
 #[test]
 fn a_call_takes_less_stack_than_the_header_says() {
     let source = fs::read_to_string(repository().join("tests/c/stack.c"));
@@ -305,19 +335,75 @@ fn a_call_takes_less_stack_than_the_header_says() {
     let words: Vec<&Path> = paths.iter().map(PathBuf::as_path).collect();
     let output = run(&program, &words, None);
     let most = String::from_utf8(output.stdout).expect("a text");
-    let most: usize = most.trim_end().parse().expect("a number of bytes");
-    // A search of 28 halvings, each with a frame, cannot take less than this.
-    assert!((2_000..10_000).contains(&most), "{most} bytes");
+    let most: Vec<usize> = most.lines().map(|line| line.parse().expect("bytes")).collect();
+    println!("stack of run, lines and write, and files written: {most:?}");
+    let &[run, lines, write, made] = &most[..] else {
+        panic!("three functions were called");
+    };
+    // A search of 28 halvings, each with a frame, cannot take less than 2,000 bytes. A writer
+    // searches nothing; the lesson and other sessions were written, to the last event.
+    assert!([run, lines].iter().all(|taken| (2_000..10_000).contains(taken)), "{most:?}");
+    assert!((1..10_000).contains(&write) && made > 10, "{most:?}");
 }
 
 /// A device that takes nothing: the lines are lost, and the status says so.
 #[test]
-fn readings_that_cannot_be_written() {
-    let full = File::options().write(true).open("/dev/full").expect("a full device");
-    let output = Command::new(readings("full"))
-        .arg(repository().join("examples/lesson.session"))
-        .stdout(full)
-        .output()
-        .expect("the program starts");
-    assert_said(&output, 2, "cannot write");
+fn lines_that_cannot_be_written() {
+    let lesson = repository().join("examples/lesson.session");
+    for (program, name) in [(readings("full"), lesson), (plan("full"), scratch("full.session"))] {
+        let full = File::options().write(true).open("/dev/full").expect("a full device");
+        let output = Command::new(program).arg(name).stdout(full).output();
+        assert_said(&output.expect("the program starts"), 2, "cannot write the ");
+    }
+}
+
+fn plan(test: &str) -> PathBuf {
+    example("plan", test)
+}
+
+/// By document 01: raw 0 and 10,000,000 against a reference of 1,000,000,000 at R 40,000,000,
+/// and the area of the three readings.
+const PLANNED_LINES: &str = "\
+1 1 0 0 0 0
+2 4 0 0 0 0
+3 7 0 0 0 0
+4 6 0 40000000 1000000000 1000000000
+5 6 0 40000000 1388160000 1388160000
+6 6 0 40000000 1000000000 1000000000
+7 8 0 0 0 0
+8 9 0 3 2776320000 0
+";
+
+/// Stored where nothing stood, and over a longer file, of which nothing is left.
+#[test]
+fn a_lesson_that_was_planned() {
+    let (program, path) = (plan("lesson"), scratch("planned.session"));
+    let mut expected = [0; 232];
+    assert_eq!(lesson::desk().write(&mut expected).written, expected.len());
+    for before in [None, Some([0xA5; 5_000])] {
+        match before {
+            None => drop(fs::remove_file(&path)),
+            Some(bytes) => fs::write(&path, bytes).expect("a written file"),
+        }
+        let output = run(&program, &[&path], None);
+        assert_eq!(output.status.code(), Some(0));
+        assert!(output.stderr.is_empty());
+        assert_eq!(String::from_utf8_lossy(&output.stdout), PLANNED_LINES);
+        let stored = fs::read(&path).expect("the lesson was stored");
+        assert_eq!(stored, expected);
+        assert_eq!(lines(&stored), PLANNED_LINES);
+    }
+}
+
+#[test]
+fn a_plan_that_cannot_be_stored() {
+    let program = plan("trouble");
+    assert_said(&run(&program, &[Path::new("/dev/full")], None), 2, "cannot write /dev/full: ");
+    let nowhere = scratch("nothing").join("planned.session");
+    assert_said(&run(&program, &[&nowhere], None), 2, "cannot open");
+    assert_said(&run(&program, &[repository()], None), 2, "cannot open");
+    let name = scratch("unplanned.session");
+    assert_said(&run(&program, &[], None), 2, "usage: plan FILE");
+    assert_said(&run(&program, &[&name, &name], None), 2, "usage: plan FILE");
+    assert!(!name.exists());
 }

@@ -1,4 +1,4 @@
-//! The proved library's four functions beside this implementation: every status, every
+//! The proved library's five functions beside this implementation: every status, every
 //! length and every byte of a lent output, every double. The archive's folder is named by
 //! IRGA_LIBRARY when the tests are built.
 
@@ -8,7 +8,7 @@ use std::thread;
 use irga_tests::engine::Answer;
 use irga_tests::file::{self, Outcome, Session, LINE_ROOM, RECORD_BYTES};
 use irga_tests::harness::{Campaign, Count};
-use irga_tests::hostile;
+use irga_tests::hostile::{self, OwedPlan};
 use irga_tests::lesson;
 use irga_tests::library;
 use irga_tests::random::Random;
@@ -151,6 +151,9 @@ fn threads_do_not_disturb_each_other() {
                 for number in 0..60 {
                     assert_same_at_each_length(&sessions::make(0x6270 + thread, number).file);
                 }
+                let plans = Campaign { sessions: 60, ..campaign(0x6280 + thread) };
+                let met = plans.against_writer(library::write, &mut library::run);
+                assert!(met.is_ok(), "{met:?}");
             });
         }
     });
@@ -276,4 +279,43 @@ fn fewer_bytes_than_an_answer_has() {
     }
     assert_eq!(reading(&sample).0, 0);
     assert_eq!(area(&whole_area).0, 0);
+}
+
+/// Plans, records with faults, and session files taken apart and written again.
+#[test]
+fn plans_are_the_same_files() {
+    let campaign = campaign(0x6272);
+    let met = campaign.against_writer(library::write, &mut library::run);
+    let met = met.unwrap_or_else(|why| panic!("{why}"));
+    println!("{met}");
+    let rare = met.rarer_than(campaign.sessions / 1_000);
+    assert!(rare.is_empty(), "{rare:?}");
+}
+
+/// Each bit that must be zero, every length that matters, every order.
+#[test]
+fn plans_that_are_owed_a_status() {
+    for plan in hostile::plans() {
+        assert_eq!(plan.check(library::write), Ok(()));
+    }
+}
+
+/// As many sheets and events as a file may have, most of them accepted, there and back.
+#[test]
+fn the_longest_plan() {
+    let mut lesson = lesson::session();
+    lesson.sheets = lesson.sheets.repeat(16);
+    lesson.events = lesson.events.repeat(9);
+    lesson.events.truncate(2_700);
+    let (file, mut out) = (lesson.to_bytes(), vec![0xA5; 65_200]);
+    assert_eq!(library::write(&lesson.records(), &mut out), Outcome { status: 0, written: 65_200 });
+    assert!(out == file && Session::open(&out) == Some(lesson.clone()));
+    assert_same_at_each_length(&out);
+    for (room, status) in [(65_199, 15), (0, 15), (65_200, 0)] {
+        let plan = OwedPlan { records: lesson.records(), room, status };
+        assert_eq!(plan.check(library::write), Ok(()));
+    }
+    lesson.sheets.push(lesson.sheets[0]);
+    let plan = OwedPlan { records: lesson.records(), room: 100, status: 14 };
+    assert_eq!(plan.check(library::write), Ok(()));
 }

@@ -80,11 +80,25 @@ fn lengths_in_bytes() {
         format!("| sheet count u32, 0 to {sheets} | sheet offset u32, {header} |"),
         format!("| event count u32, 0 to {events} |"),
         format!("| event offset u32, {header} + {record} × sheet count |"),
-        format!("{answers} bytes of output are enough for any session, {lines} for its lines."),
+        format!("{answers} bytes of output are enough for any session, {lines} for its lines,"),
+        format!("and {longest} for any file that is written."),
+        format!("`irga_write` takes up to {sheets} sheets and {events} events and"),
+        format!("than the file to be written, {header} + {record} × sheets + {record} × events |"),
         format!("shorter than {record} × event count, for the lines {line} × event count |"),
     ] {
         assert_says(&sentence);
     }
+}
+
+/// What examples/plan.c prepares: document 01's figures are those of `c_programs`.
+#[test]
+fn the_lesson_of_the_desk() {
+    let plan = lesson::desk();
+    assert_eq!((plan.sheets.len(), plan.events.len()), (1, 8));
+    assert_says("fills in one sheet and eight events,");
+    let lines = file::program(&plan.session().to_bytes());
+    let area = lines.lines().last().expect("a line for each event");
+    assert_says(&format!("on the last line, `{area}`, their area."));
 }
 
 /// The cells, but for the first, of the first row of a table that begins like this.
@@ -384,6 +398,7 @@ fn near(a: i64, b: i64) -> i64 {
 /// Document 01's numbers, and its order.
 #[test]
 fn refusals_and_their_order() {
+    let [sheets, events] = [file::SHEETS_LIMIT, file::EVENTS_LIMIT].map(number);
     for (refusal, words) in [
         (Refusal::NoSheet, "no sheet loaded,"),
         (Refusal::SheetOutsideLimits, "the sheet that is loaded is outside its limits,"),
@@ -398,10 +413,13 @@ fn refusals_and_their_order() {
         (Refusal::MalformedEvent, "unknown kind,"),
         (Refusal::MalformedFile, "header or length"),
         (Refusal::OutputTooShort, "the lent output is shorter"),
+        (Refusal::TooMany, &format!("more than {sheets} sheets or {events} events")),
+        (Refusal::NoRoom, "the lent buffer is shorter than the file to be written,"),
     ] {
         assert_says(&format!("| {} | {words}", refusal.number()));
     }
     assert_says("the first in this order is given: 11, 1, 2, 10, 6, 3, 4, 5, 9, 7, 8. 12 and 13");
+    assert_says("14, 11 and 15, in this order, what is to be written:");
 }
 
 #[test]
@@ -430,6 +448,7 @@ fn sessions_and_versions_of_the_gate() {
     let sessions = number(SESSIONS);
     assert_says(&format!("which go through {sessions} sessions with the proved program"));
     assert_says(&format!("and through {sessions} twice with the library"));
+    assert_says(&format!("and have it write {sessions} plans and run them"));
     assert!(GATE.contains(&format!("\nexport IRGA_SESSIONS={SESSIONS}\n")));
     assert_says(&format!("`cargo` (Rust {} or later)", env!("CARGO_PKG_RUST_VERSION")));
 }

@@ -1,11 +1,12 @@
-//! The session file by bytes: header, length, records, the lent output, and the
-//! program's limit. The expected bytes are laid out by hand from document 01.
+//! The session file by bytes: header, length, records, the lent output, the program's limit,
+//! and plans that become files. The expected bytes are laid out by hand from document 01.
 
 use irga_tests::bench;
 use irga_tests::engine::{Entry, Event};
-use irga_tests::file::{self, EventRecord, Outcome, Session};
+use irga_tests::file::{self, EventRecord, Outcome, Records, Session};
 use irga_tests::harness::{Executable, Program};
 use irga_tests::hostile;
+use irga_tests::plan::{self, Plan, PlannedSheet};
 
 fn word(bytes: &mut Vec<u8>, number: u32) {
     bytes.extend(number.to_le_bytes());
@@ -160,4 +161,98 @@ fn a_malformed_event_keeps_its_kind_in_the_line() {
     let record = EventRecord { kind: 200, padding: [0, 0, 9], ..EventRecord::default() };
     let session = Session { sheets: vec![], events: vec![record] };
     assert_eq!(file::program(&session.to_bytes()), "1 200 11 0 0 0\n");
+}
+
+/// The plan that `by_hand` is the file of.
+fn planned_by_hand() -> Plan {
+    let sample = Event::Sample { raw: -2, p: 101_300, t: 29_815, e: 7 };
+    let Plan { sheets, .. } = Plan::of(&Session { sheets: vec![bench::sheet()], events: vec![] })
+        .expect("the bench sheet's last bytes are zero");
+    Plan { sheets, events: vec![Event::Load { index: 0 }, sample] }
+}
+
+/// What both writers make of a plan and of a lent buffer of so many bytes 0xAA.
+fn written(plan: &Plan, room: usize) -> (Outcome, Vec<u8>) {
+    let mut out = vec![0xAA; room];
+    let outcome = plan.write(&mut out);
+    let mut by_records = vec![0xAA; room];
+    let records = plan.session().records();
+    assert_eq!(plan::write_records(&records, &mut by_records), outcome);
+    assert_eq!(by_records, out);
+    (outcome, out)
+}
+
+#[test]
+fn a_plan_stands_at_the_start_and_the_rest_stays() {
+    for spare in [0, 1, 300] {
+        let (outcome, out) = written(&planned_by_hand(), 88 + spare);
+        assert_eq!(outcome, Outcome { status: 0, written: 88 });
+        assert_eq!(out, [by_hand(), vec![0xAA; spare]].concat());
+    }
+    let (outcome, out) = written(&Plan::default(), 17);
+    assert_eq!(outcome, Outcome { status: 0, written: 16 });
+    assert_eq!(out, [0, 0, 0, 0, 16, 0, 0, 0, 0, 0, 0, 0, 16, 0, 0, 0, 0xAA]);
+}
+
+/// 14 before 15, and the buffer stays.
+#[test]
+fn a_plan_that_is_turned_away() {
+    let mut plan = planned_by_hand();
+    for room in [0, 16, 87] {
+        assert_eq!(written(&plan, room), (Outcome { status: 15, written: 0 }, vec![0xAA; room]));
+    }
+    plan.sheets = plan.sheets.repeat(17);
+    for room in [0, 87, 100_000] {
+        assert_eq!(written(&plan, room), (Outcome { status: 14, written: 0 }, vec![0xAA; room]));
+    }
+    plan.sheets.truncate(16);
+    plan.events = plan.events.repeat(1_350);
+    assert_eq!(written(&plan, 65_200).0, Outcome { status: 0, written: 65_200 });
+    plan.events.push(Event::Stop);
+    assert_eq!(written(&plan, 65_224).0, Outcome { status: 14, written: 0 });
+}
+
+/// A sheet of K 0, a pressure of 0, an index that no sheet has, the ends of every width.
+#[test]
+fn numbers_outside_their_limits_are_written_as_given() {
+    let plan = Plan {
+        sheets: vec![PlannedSheet { a1: i32::MIN, a2: -1, a3: i32::MAX, t0: u32::MAX, k: 0 }],
+        events: vec![
+            Event::Load { index: u32::MAX },
+            Event::Span { raw: i32::MIN, cylinder: u32::MAX, p: 0, t: 0, e: 1 << 31 },
+        ],
+    };
+    let mut expected = Vec::new();
+    for number in [1, 16, 2, 40, 1 << 31, u32::MAX, (1 << 31) - 1, u32::MAX, 0, 0] {
+        word(&mut expected, number);
+    }
+    for number in [1, 0, u32::MAX, 0, 0, 0, 3, 1 << 31, u32::MAX, 0, 0, 1 << 31] {
+        word(&mut expected, number);
+    }
+    assert_eq!(written(&plan, 88), (Outcome { status: 0, written: 88 }, expected.clone()));
+    assert_eq!(Session::open(&expected).and_then(|session| Plan::of(&session)), Some(plan));
+}
+
+#[test]
+fn plans_that_are_owed_a_status() {
+    for plan in hostile::plans() {
+        assert_eq!(plan.check(plan::write_records), Ok(()));
+    }
+}
+
+/// A file whose sheet has a last byte that is not zero, or with an event that is none, is
+/// nobody's plan.
+#[test]
+fn a_file_that_no_plan_makes() {
+    let sound = by_hand();
+    assert_eq!(Session::open(&sound).and_then(|file| Plan::of(&file)), Some(planned_by_hand()));
+    for at in [36, 39, 41, 43, 44, 72] {
+        let mut file = sound.clone();
+        file[at] = 1;
+        assert_eq!(Plan::of(&Session::open(&file).expect("a sound header")), None, "byte {at}");
+        let records = Records::of_file(&file).expect("a sound header");
+        let mut out = vec![0xAA; 88];
+        let outcome = plan::write_records(&records, &mut out);
+        assert_eq!((outcome, out), (Outcome { status: 11, written: 0 }, vec![0xAA; 88]));
+    }
 }

@@ -1,11 +1,14 @@
 //! Invented sessions: lessons as a class would give them, the limits and one beside
 //! them, signals over range by every ground, noise around zero, hostile kinds, padding and
 //! fields, damaged headers and lengths, long integrations, and lists with hardly an
-//! accepted event.
+//! accepted event. `plans` and `faults` invent what a writer of session files is
+//! given.
 
 mod author;
 mod damage;
+pub mod faults;
 mod numbers;
+pub mod plans;
 
 use crate::file::{Session, EVENTS_LIMIT};
 use crate::random::Random;
@@ -132,5 +135,10 @@ pub fn lent_output(random: &mut Random, answers_bytes: usize) -> Vec<u8> {
         2 | 3 => answers_bytes,
         _ => answers_bytes + random.below(60) as usize,
     };
+    old_bytes(random, length)
+}
+
+/// What a lent output holds before a call.
+fn old_bytes(random: &mut Random, length: usize) -> Vec<u8> {
     (0..length).map(|_| random.bits() as u8).collect()
 }

@@ -2,7 +2,13 @@
 //!
 //! Every byte of the lent output is compared, and every printed line. Since the
 //! answers are then the same, the exact ledger is walked over ours: demand 3's
-//! distances are checked on each session too.
+//! distances are checked on each session too. `plans` does the same for a writer of session
+//! files.
+
+mod plans;
+mod tally;
+
+pub use tally::Tally;
 
 use std::ffi::OsString;
 use std::fs;
@@ -43,6 +49,11 @@ impl Executable {
     pub fn under_test() -> Executable {
         let named = std::env::var_os("IRGA_PROGRAM");
         Executable::named(named).unwrap_or_else(|why| panic!("{why}"))
+    }
+
+    /// Another program of the repository: it stands beside the one under test.
+    pub fn beside(name: &str) -> Executable {
+        Executable { path: Executable::under_test().path.with_file_name(name) }
     }
 
     fn named(path: Option<OsString>) -> Result<Executable, &'static str> {
@@ -205,19 +216,44 @@ fn compare_lent(
     random: &mut Random,
 ) -> Result<u8, String> {
     let events = Session::open(file).map_or(3, |session| session.events.len());
-    let before = sessions::lent_output(random, filling.room * events);
-    let (mut ours, mut theirs) = (before.clone(), before);
-    let expected = (filling.run)(file, &mut ours);
-    let outcome = engine.run(file, &mut theirs);
-    if outcome != expected {
-        return Err(format!("expected {expected:?}, the engine gave {outcome:?}"));
+    let lent = sessions::lent_output(random, filling.room * events);
+    let ours = Filled::by(&lent, |output| (filling.run)(file, output));
+    let theirs = Filled::by(&lent, |output| engine.run(file, output));
+    ours.compare(&theirs, filling.name, filling.differ)?;
+    Ok(ours.outcome.status)
+}
+
+/// A lent buffer after a call, and what the call gave back.
+struct Filled {
+    outcome: Outcome,
+    bytes: Vec<u8>,
+}
+
+impl Filled {
+    fn by(lent: &[u8], call: impl FnOnce(&mut [u8]) -> Outcome) -> Filled {
+        let mut bytes = lent.to_vec();
+        Filled { outcome: call(&mut bytes), bytes }
     }
-    match ours.iter().zip(&theirs).position(|(a, b)| a != b) {
-        None => Ok(expected.status),
-        Some(at) if at >= expected.written => {
-            Err(format!("byte {at} after the {} was touched", filling.name))
+
+    /// Holds another call over the same lent bytes to this one; `differ` says how two buffers
+    /// differ that do so at a byte.
+    fn compare(
+        &self,
+        given: &Filled,
+        name: &str,
+        differ: fn(&[u8], &[u8], usize) -> String,
+    ) -> Result<(), String> {
+        let (expected, outcome) = (self.outcome, given.outcome);
+        if outcome != expected {
+            return Err(format!("expected {expected:?}, was given {outcome:?}"));
         }
-        Some(at) => Err((filling.differ)(&ours, &theirs, at)),
+        match self.bytes.iter().zip(&given.bytes).position(|(a, b)| a != b) {
+            None => Ok(()),
+            Some(at) if at >= expected.written => {
+                Err(format!("byte {at} after the {name} was touched"))
+            }
+            Some(at) => Err(differ(&self.bytes, &given.bytes, at)),
+        }
     }
 }
 

@@ -1,0 +1,96 @@
+//! The proved writer of typed sheets and events, run: the program `replan` reads a session file,
+//! plans its sheets and events again and prints the file that the writer makes of them. What a
+//! plan makes comes out byte for byte, and of anything else nothing does.
+
+use std::fs::{self, File};
+use std::path::Path;
+use std::process::Command;
+
+use irga_tests::file::{self, Session};
+use irga_tests::harness::{Executable, Program};
+use irga_tests::hostile;
+use irga_tests::lesson;
+use irga_tests::plan::Plan;
+use irga_tests::sessions::{self, plans};
+
+/// What comes out of the program; a file that is nobody's plan owes nothing.
+fn assert_planned_again(file: &[u8]) -> bool {
+    let plan = Session::open(file).and_then(|session| Plan::of(&session));
+    let owed = if plan.is_some() { file } else { &[] };
+    let printed = Executable::beside("replan").print(file);
+    assert!(printed.as_deref() == Ok(owed), "a file of {} bytes: {printed:?}", file.len());
+    plan.is_some()
+}
+
+/// Sessions that may be damaged, and plans with numbers inside and far outside their limits.
+#[test]
+fn invented_files() {
+    let (mut plain, mut other) = (0, 0);
+    for number in 0..1_000 {
+        let (plan, _) = plans::planned(0x6274, number);
+        for file in [sessions::make(0x6274, number).file, plan.session().to_bytes()] {
+            let count = if assert_planned_again(&file) { &mut plain } else { &mut other };
+            *count += 1;
+        }
+    }
+    println!("{plain} planned again, {other} left");
+    assert!(plain > 1_000 && other > 200, "{plain} planned again, {other} left");
+}
+
+/// The example of document 01, which the program `irga` reads too.
+#[test]
+fn the_example_of_the_paper() {
+    let irga = include_bytes!("../../crates/irga/stdin");
+    assert_eq!(include_bytes!("../../crates/replan/stdin"), irga);
+    assert_eq!(include_bytes!("../../crates/replan/stdout"), irga);
+    assert!(assert_planned_again(irga));
+}
+
+/// As many sheets and events as a file may have, one event more, one sheet more, none at all.
+#[test]
+fn the_longest_plan_and_the_ends() {
+    let mut lesson = lesson::session();
+    lesson.sheets = lesson.sheets.repeat(16);
+    lesson.events = lesson.events.repeat(9);
+    lesson.events.truncate(2_700);
+    assert!(assert_planned_again(&lesson.to_bytes()));
+    lesson.events.push(lesson.events[0]);
+    assert!(!assert_planned_again(&lesson.to_bytes()));
+    lesson.events.truncate(2_700);
+    lesson.sheets.push(lesson.sheets[0]);
+    assert!(!assert_planned_again(&lesson.to_bytes()));
+    assert!(assert_planned_again(&Session::default().to_bytes()));
+}
+
+/// README says that the typed writer wants some 200 KiB of stack: the longest plan, with its
+/// arrays and their copies, comes out of one of 256 KiB, and not of one of 128.
+#[test]
+fn the_stack_of_the_typed_writer() {
+    let mut lesson = lesson::session();
+    lesson.events = lesson.events.repeat(9);
+    lesson.events.truncate(2_700);
+    let path = Path::new(env!("CARGO_TARGET_TMPDIR")).join("longest.session");
+    fs::write(&path, lesson.to_bytes()).expect("a written file");
+    let program = Executable::beside("replan").path;
+    for (kilobytes, enough) in [("256", true), ("128", false)] {
+        let mut shell = Command::new("sh");
+        shell.args(["-c", "ulimit -s \"$1\" && exec \"$0\""]).arg(&program).arg(kilobytes);
+        let output = shell.stdin(File::open(&path).expect("the file")).output().expect("a start");
+        assert_eq!(output.stdout == lesson.to_bytes(), enough, "{kilobytes} KiB");
+    }
+}
+
+/// Each bit that must be zero, headers whose sums wrap, and what is no file.
+#[test]
+fn files_that_no_plan_makes() {
+    for spoilt in hostile::bits_that_must_be_zero() {
+        assert!(!assert_planned_again(&spoilt.file));
+    }
+    for file in hostile::wrapping_headers() {
+        assert!(!assert_planned_again(&file));
+    }
+    let lesson = lesson::session().to_bytes();
+    for file in [&[][..], &lesson[1..], &vec![0; file::INPUT_LIMIT + 1]] {
+        assert!(!assert_planned_again(file));
+    }
+}

@@ -8,21 +8,21 @@ use mathlib.Core.List.{List, map, flatMap}
 use mathlib.Core.Path.{_≡_, refl, sym, _∙_}
 use borrow.Author.Tests.{eqb-true, eq-eqb, le-leb}
 use lib.Dec.{eqb}
-use lib.ListN.{length, drop, length-map, length-drop}
-use lib.Seq.{take-all, length-take-le}
+use lib.ListN.{length, length-map, length-drop}
+use lib.Seq.{take-all}
 use Rattle.curve.proofs.Within.{both}
 use Rattle.fields.specs.Fields.{AreBytes}
 use Rattle.layout.specs.Records.{sheetOf, sheetBytes, SheetFits, eventOf, eventBytes, EventFits}
 use Rattle.layout.proofs.RoundTrips.{sheet-fits, sheet-written, event-fits, event-written}
-use Rattle.format.specs.Header.{sheetCount, eventCount, firstEvent, wellFormed, sheetsOf, recordsFrom, eventsOf}
+use Rattle.format.specs.Header.{eventCount, firstEvent, wellFormed, sheetsOf, recordsFrom, eventsOf}
 use Rattle.format.specs.File.{fileBytes, Each}
 use Rattle.format.proofs.File.{length-records, records-drop, records-fit, records-written, reads-back, made-again}
 use Rattle.format.proofs.Shape.{shape}
 use Rattle.entries.specs.Entries.{entryOf, recordOfEvent}
 use Rattle.contents.specs.Plan.{recordOfSheet, planBytes}
-use Rattle.contents.specs.Contents.{sheetsIn, numbersOf, every, isPlain, isKnown, knownEvent, plainFile}
-use Rattle.contents.proofs.RoundTrip.{holds, plain, plain-sheets, known-entries, records-known, sheets-found, sheets-of}
-use Rattle.contents.specs.Packed.{eventsIn, packed, packedBytes, packedStatus}
+use Rattle.contents.specs.Contents.{every, sheetsIn, numbersOf, plannedIn, knownEvent, isPlain, isKnown, plainFile}
+use Rattle.contents.proofs.RoundTrip.{each-of-map, holds, plain, plain-sheets, known-entries, records-known, sheets-found, sheets-length, sheets-of}
+use Rattle.contents.specs.Packed.{eventsIn, typedIn, packed, packedBytes, packedStatus}
 use Rattle.contents.specs.Repacked.{PackedIsPlan, eventBytesOf, PlainRepacks}
 use Rattle.contents.proofs.Packed.{served}
 
@@ -53,20 +53,18 @@ packed-is-plan sheets events bs be room z =
     let r = right sheets events (h .right) in
     let n = length-records sheetOf sheets 0 (length sheets / 24) in
     let m = length-records eventOf events 0 (length events / 24) in
-    let x = map numbersOf (sheetsIn sheets) in
-    let y = map knownEvent (map entryOf (eventsIn events)) in
-    let a : sheetsIn sheets ≡ map recordOfSheet x = plain-sheets (sheetsIn sheets) (r .plain) in
-    let b : eventsIn events ≡ map recordOfEvent y = records-known (eventsIn events) (r .known) in
-    let ln : length x ≡ length sheets / 24 = length-map (sheetsIn sheets) numbersOf ∙ n in
-    let lm : length y ≡ length events / 24 = length-map (map entryOf (eventsIn events)) knownEvent ∙ length-map (eventsIn events) entryOf ∙ m in
+    let a : sheetsIn sheets ≡ map recordOfSheet (plannedIn sheets) = plain-sheets (sheetsIn sheets) (r .plain) in
+    let b : eventsIn events ≡ map recordOfEvent (typedIn events) = records-known (eventsIn events) (r .known) in
+    let ln : length (plannedIn sheets) ≡ length sheets / 24 = length-map (sheetsIn sheets) numbersOf ∙ n in
+    let lm : length (typedIn events) ≡ length events / 24 = length-map (map entryOf (eventsIn events)) knownEvent ∙ length-map (eventsIn events) entryOf ∙ m in
     let fs : Each SheetFits (sheetsIn sheets) = records-fit sheetOf sheet-fits bs 0 (length sheets / 24) in
     let fe : Each EventFits (eventsIn events) = records-fit eventOf event-fits be 0 (length events / 24) in
     let back = reads-back (sheetsIn sheets) (eventsIn events) (rw n (omega (arith, h .few))) (rw m (omega (arith, h .short))) fs fe in
     record {
-      ss = x;
-      es = y;
       sheetsWhole = omega (arith, ln, r .wholeSheets);
       eventsWhole = omega (arith, lm, r .wholeEvents);
+      sheetsFit = each-of-map {P = SheetFits} recordOfSheet (plannedIn sheets) (rw (← a) fs);
+      eventsFit = each-of-map {P = EventFits} recordOfEvent (typedIn events) (rw (← b) fe);
       given = rw (n, m, ln, lm, put-back sheetOf sheetBytes sheet-written sheets bs (r .wholeSheets), put-back eventOf eventBytes event-written events be (r .wholeEvents));
       is = rw (← a, ← b);
       holds = holds (back .formed) (sheets-found (sheetsIn sheets) fs (back .bytes) ∙ a) (rw (back .events) (known-entries _ (r .known)));
@@ -74,9 +72,6 @@ packed-is-plan sheets events bs be room z =
 
 -- a file's records, cut out of it
 module _ (file : List ℕ) (w : wellFormed file ≡ true) where
-  sheets-length : length (sheetsOf file) ≡ 24 * sheetCount file
-  sheets-length = let s = shape file w in length-take-le (24 * sheetCount file) (drop 16 file) (omega (arith, length-drop 16 file))
-
   events-length : length (eventBytesOf file) ≡ 24 * eventCount file
   events-length = let s = shape file w in omega (arith, length-drop (firstEvent file) file)
 
@@ -89,7 +84,7 @@ module _ (file : List ℕ) (w : wellFormed file ≡ true) where
   pub packed-plain : packed (sheetsOf file) (eventBytesOf file) ≡ plainFile file
   unfolding packed
   packed-plain =
-      let ws = eq-eqb (length (sheetsOf file) % 24) 0 (omega (arith, sheets-length)) in
+      let ws = eq-eqb (length (sheetsOf file) % 24) 0 (omega (arith, sheets-length file w)) in
       let we = eq-eqb (length (eventBytesOf file) % 24) 0 (omega (arith, events-length)) in
       rw (ws, we, events-of, w)
 
@@ -104,5 +99,5 @@ plain-repacks file are h =
     let short = le-leb (length (eventBytesOf file)) 64800 (omega arith) in
     record {
       status = λ room fits. rw (few, short, packed-plain file w, h, le-leb (16 + length (sheetsOf file) + length (eventBytesOf file)) room (omega (arith, s .end)));
-      is = rw (events-of file w, sheets-of file are w) (sym (made-again file are w .is));
+      is = rw (events-of file w, sheets-of file w) (sym (made-again file are w .is));
     }

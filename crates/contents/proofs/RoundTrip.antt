@@ -2,12 +2,13 @@
 use Prim.Native.Nat.{ℕ, _+_, _*_, _≤_}
 use native.Mathlib.Nat.{zero-add}
 use native.Mathlib.Omega.{arith}
-use mathlib.Core.Bool.{true, false, _&&_}
+use mathlib.Core.Bool.{true, false, _&&_, cond}
 use mathlib.Core.List.{List, [], _∷_, map, flatMap, append-nil}
 use mathlib.Core.Path.{_≡_, refl, sym, ap, _∙_}
 use borrow.Author.Tests.{eqb-true, le-leb}
-use lib.ListN.{length, take, drop, length-map}
-use lib.Seq.{take-at}
+use lib.Dec.{leb}
+use lib.ListN.{length, take, drop, length-map, length-drop}
+use lib.Seq.{take-at, length-take-le}
 use Rattle.curve.proofs.Within.{both}
 use Rattle.layout.specs.declared.SheetRecord.{SheetRecord}
 use Rattle.layout.specs.declared.EventRecord.{EventRecord}
@@ -22,7 +23,7 @@ use Rattle.rules.specs.declared.Entry.the-variants.{Known, Malformed}
 use Rattle.format.specs.Header.{sheetCount, eventCount, wellFormed, sheetsOf, sheetRecordsOf, eventsOf}
 use Rattle.format.specs.File.{Each}
 use Rattle.format.specs.File.Each.{none, more}
-use Rattle.format.proofs.File.{length-records, records-read, length-flat, reads-back, made-again}
+use Rattle.format.proofs.File.{length-records, records-drop, records-take, records-read, length-flat, reads-back, made-again}
 use Rattle.format.proofs.Shape.{shape}
 use Rattle.entries.specs.Entries.{entryOf, recordOfEvent}
 use Rattle.entries.proofs.Inverse.{record-known, known-record}
@@ -31,7 +32,7 @@ use Rattle.contents.specs.declared.PlannedSheet.{PlannedSheet}
 use Rattle.contents.specs.Plan.{recordOfSheet, PlannedFits, TypedFits, planBytes, planStatus}
 use Rattle.contents.proofs.Lookups.{planned-loads}
 use Rattle.contents.proofs.Planned.{Served, sheets-planned, events-planned}
-use Rattle.contents.specs.Contents.{sheetsIn, numbersOf, Holds, WrittenIsRead, every, isPlain, isKnown, knownEvent, plainFile, ReadIsWritten}
+use Rattle.contents.specs.Contents.{every, sheetsIn, numbersOf, knownEvent, sheetsGiven, eventsGiven, isPlain, Holds, WrittenIsRead, isKnown, plainFile, ReadIsWritten}
 
 -- ---- sheets and their records
 
@@ -59,10 +60,6 @@ sheets-found rs fits {b} e =
     rw n (records-read sheetOf sheetBytes length-sheet sheet-read rs fits b [] 0 (rw (append-nil) e))
 
 -- ---- events and their entries
-
-events-back : (es : List Event) → map knownEvent (map Known es) ≡ es
-events-back [] = refl
-events-back (e ∷ es) = ap (λ (rest : List Event). e ∷ rest) (events-back es)
 
 pub never : {P : Type 0} → false ≡ true → P
 never e = let z : _≡_ {A = ℕ} 0 1 = cc in absurd (omega arith)
@@ -95,7 +92,7 @@ each-map : {A B : Type 0} {P : B → Type 0} (f : A → B) {xs : List A} → Eac
 each-map f none = none
 each-map f (more p ps) = more p (each-map f ps)
 
-each-of-map : {A B : Type 0} {P : B → Type 0} (f : A → B) (xs : List A) → Each P (map f xs) → Each (λ (a : A). P (f a)) xs
+pub each-of-map : {A B : Type 0} {P : B → Type 0} (f : A → B) (xs : List A) → Each P (map f xs) → Each (λ (a : A). P (f a)) xs
 each-of-map f [] none = none
 each-of-map f (a ∷ xs) (more p ps) = more p (each-of-map f xs ps)
 
@@ -128,16 +125,6 @@ held sheets n events m hn hm s fs fe {old} p =
 
 -- ---- read, then written
 
--- the sheets that a load finds are those of the file
-pub sheets-of : (file : List ℕ) → AreBytes file → wellFormed file ≡ true → sheetsIn (sheetsOf file) ≡ sheetRecordsOf file
-sheets-of file are w =
-    let s = shape file w in
-    let m = made-again file are w in
-    let few : length (sheetRecordsOf file) ≤ 16 = rw (length-records sheetOf file 16 (sheetCount file)) (s .sheets) in
-    let short : length (eventsOf file) ≤ 2700 = rw (length-records eventOf file _ (eventCount file)) (s .events) in
-    let r = reads-back (sheetRecordsOf file) (eventsOf file) few short (m .sheetsFit) (m .eventsFit) in
-    sheets-found (sheetRecordsOf file) (m .sheetsFit) (ap sheetsOf (m .is) ∙ r .bytes)
-
 -- what the test of a plain file tells
 pub record Plain (file : List ℕ) : Type 0 where
   pub formed : wellFormed file ≡ true
@@ -150,41 +137,41 @@ plain file h =
     let p = both (wellFormed file) (every isPlain (sheetsIn (sheetsOf file))) (k .0) in
     record { formed = p .0; sheets = p .1; events = k .1 }
 
--- the file is that of what its records say
-pub plan-of : (file : List ℕ) → AreBytes file → plainFile file ≡ true → file ≡ planBytes (map numbersOf (sheetRecordsOf file)) (map knownEvent (entriesOf file))
-unfolding planBytes
-plan-of file are h =
-    let p = plain file h in
-    let a = plain-sheets (sheetRecordsOf file) (rw (sheets-of file are (p .formed)) at (p .sheets)) in
-    made-again file are (p .formed) .is ∙ rw (← a, ← records-known (eventsOf file) (p .events))
+module _ (file : List ℕ) (w : wellFormed file ≡ true) where
+  -- the bytes that a run hands to the engine, and the records in them, which are those of the file
+  pub sheets-length : length (sheetsOf file) ≡ 24 * sheetCount file
+  sheets-length = let s = shape file w in length-take-le (24 * sheetCount file) (drop 16 file) (omega (arith, length-drop 16 file))
 
--- and a writer with room for it does not turn it away
-pub plan-room : (file : List ℕ) → wellFormed file ≡ true → (room : ℕ) → length file ≤ room → planStatus (sheetCount file) (eventCount file) room ≡ 0
-unfolding planStatus
-plan-room file w room fits =
-    let s = shape file w in
-    rw (le-leb _ _ (s .sheets), le-leb _ _ (s .events), le-leb (16 + 24 * sheetCount file + 24 * eventCount file) room (omega arith))
+  pub sheets-of : sheetsIn (sheetsOf file) ≡ sheetRecordsOf file
+  sheets-of =
+      let n : sheetsHeld (sheetsOf file) ≡ sheetCount file = omega (arith, sheets-length) in
+      rw (n, records-take sheetOf (drop 16 file) (24 * sheetCount file) 0 (sheetCount file) (omega arith), records-drop sheetOf file 16 0 (sheetCount file))
+
+  -- as many as the header says
+  pub sheets-given : length (sheetsGiven file) ≡ sheetCount file
+  sheets-given = length-map (sheetsIn (sheetsOf file)) numbersOf ∙ ap length sheets-of ∙ length-records sheetOf file 16 (sheetCount file)
+
+  pub events-given : length (eventsGiven file) ≡ eventCount file
+  events-given = length-map (entriesOf file) knownEvent ∙ length-map (eventsOf file) entryOf ∙ length-records eventOf file _ (eventCount file)
+
+  -- so a writer turns them away only where the file itself has no room
+  pub plan-status : (room : ℕ) → planStatus (sheetCount file) (eventCount file) room ≡ cond (leb (length file) room) 0 15
+  unfolding planStatus
+  plan-status room = let s = shape file w in rw (le-leb _ _ (s .sheets), le-leb _ _ (s .events), s .end)
 
 pub read-is-written : ReadIsWritten
+unfolding planBytes
 read-is-written file are h =
     let p = plain file h in
-    let m = made-again file are (p .formed) in
-    let found = sheets-of file are (p .formed) in
-    let ss = map numbersOf (sheetsIn (sheetsOf file)) in
-    let es = map knownEvent (entriesOf file) in
-    let a : sheetsIn (sheetsOf file) ≡ map recordOfSheet ss = plain-sheets (sheetsIn (sheetsOf file)) (p .sheets) in
-    let e : eventsOf file ≡ map recordOfEvent es = records-known (eventsOf file) (p .events) in
-    let ls : length ss ≡ sheetCount file =
-    length-map (sheetsIn (sheetsOf file)) numbersOf ∙ ap length found ∙ length-records sheetOf file 16 (sheetCount file) in
-    let le : length es ≡ eventCount file =
-    length-map (entriesOf file) knownEvent ∙ length-map (eventsOf file) entryOf ∙ length-records eventOf file _ (eventCount file) in
+    let w = p .formed in
+    let m = made-again file are w in
+    let found = sheets-of file w in
+    let a : sheetsIn (sheetsOf file) ≡ map recordOfSheet (sheetsGiven file) = plain-sheets (sheetsIn (sheetsOf file)) (p .sheets) in
+    let e : eventsOf file ≡ map recordOfEvent (eventsGiven file) = records-known (eventsOf file) (p .events) in
     record {
-      sheets = ss;
-      events = es;
-      holds = holds (p .formed) a (known-entries (entriesOf file) (p .events));
-      sheetsFit = each-of-map {P = SheetFits} recordOfSheet ss (rw (← a, found) (m .sheetsFit));
-      eventsFit = each-of-map {P = EventFits} recordOfEvent es (rw (← e) (m .eventsFit));
-      status = λ room fits. rw (ls, le) (plan-room file (p .formed) room fits);
-      made = rw found (plan-of file are h);
-      only = λ ss es g. (sym (g .sheets), sym (events-back es) ∙ ap (map knownEvent) (sym (g .events)));
+      holds = holds w a (known-entries (entriesOf file) (p .events));
+      sheetsFit = each-of-map {P = SheetFits} recordOfSheet (sheetsGiven file) (rw (← a, found) (m .sheetsFit));
+      eventsFit = each-of-map {P = EventFits} recordOfEvent (eventsGiven file) (rw (← e) (m .eventsFit));
+      status = λ room fits. rw (sheets-given file w, events-given file w, plan-status file w room, le-leb _ _ fits);
+      made = m .is ∙ rw (← a, ← e, found);
     }

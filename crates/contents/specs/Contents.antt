@@ -37,6 +37,21 @@ sheetsIn bytes = recordsFrom sheetOf bytes 0 (sheetsHeld bytes)
 abbrev pub numbersOf : SheetRecord → PlannedSheet
 numbersOf r = record { a1 = r .a1; a2 = r .a2; a3 = r .a3; t0 = r .t0; k = r .k }
 
+abbrev pub plannedIn : List ℕ → List PlannedSheet
+plannedIn bytes = map numbersOf (sheetsIn bytes)
+
+-- the event of a known entry; a malformed one has none, and a start stands for it
+abbrev pub knownEvent : Entry → Event
+knownEvent (Entry.Known e) = e
+knownEvent (Entry.Malformed kind) = Event.Start
+
+-- a file's sheets, in the bytes that the run hands to the engine, and its events, of the entries that the run answers
+abbrev pub sheetsGiven : List ℕ → List PlannedSheet
+sheetsGiven file = plannedIn (sheetsOf file)
+
+abbrev pub eventsGiven : List ℕ → List Event
+eventsGiven file = map knownEvent (entriesOf file)
+
 -- a sheet's four last bytes are zero
 abbrev pub isPlain : SheetRecord → Bool
 isPlain r = eqb (r .rest) 0
@@ -53,12 +68,12 @@ foundAmong [] index = Lookup.Refused 1
 foundAmong (s ∷ ss) zero = cond (plannedWithin s) (Lookup.Found (sheetFrom s)) (Lookup.Refused 2)
 foundAmong (s ∷ ss) (suc index) = foundAmong ss index
 
--- a file of accepted header and length, of which the run has exactly these sheets and these events. Of the bytes that it hands to the
--- engine: their records say these sheets, with zero bytes after them, and a load of any index finds what it is to find among them. And the
--- entries that are answered are these events
+-- a file of accepted header and length, of which the run has exactly these sheets and these events: the sheets are those that it hands to
+-- the engine, with zero bytes after each, and a load of any index finds what it is to find among them; the entries that are answered are
+-- these events
 pub record Holds (file : List ℕ) (ss : List PlannedSheet) (es : List Event) : Type 0 where
   pub formed : wellFormed file ≡ true
-  pub sheets : map numbersOf (sheetsIn (sheetsOf file)) ≡ ss
+  pub sheets : sheetsGiven file ≡ ss
   pub plain : every isPlain (sheetsIn (sheetsOf file)) ≡ true
   pub loads : (index : ℕ) → lookupOf (sheetsOf file) index ≡ foundAmong ss index
   pub events : entriesOf file ≡ map Entry.Known es
@@ -76,26 +91,18 @@ abbrev pub isKnown : Entry → Bool
 isKnown (Entry.Known e) = true
 isKnown (Entry.Malformed kind) = false
 
--- the event of a known entry; a malformed one has none, and a start stands for it
-abbrev pub knownEvent : Entry → Event
-knownEvent (Entry.Known e) = e
-knownEvent (Entry.Malformed kind) = Event.Start
-
 -- a file of accepted header and length, with known kinds only and zero bytes wherever they must be
 abbrev pub plainFile : List ℕ → Bool
 plainFile file = wellFormed file && every isPlain (sheetsIn (sheetsOf file)) && every isKnown (entriesOf file)
 
--- it holds sheets and events, whose numbers have the file's widths; a writer with room for it turns them not away, and what it makes of
--- them is the file, byte for byte; and the file holds no others
+-- it holds the sheets and events that the reader gives of it, whose numbers have the file's widths; a writer with room for it does not turn
+-- them away, and what it makes of them is the file, byte for byte
 pub record Made (file : List ℕ) : Type 0 where
-  pub sheets : List PlannedSheet
-  pub events : List Event
-  pub holds : Holds file sheets events
-  pub sheetsFit : Each PlannedFits sheets
-  pub eventsFit : Each TypedFits events
-  pub status : (room : ℕ) → length file ≤ room → planStatus (length sheets) (length events) room ≡ 0
-  pub made : file ≡ planBytes sheets events
-  pub only : (ss : List PlannedSheet) (es : List Event) → Holds file ss es → (ss ≡ sheets) × (es ≡ events)
+  pub holds : Holds file (sheetsGiven file) (eventsGiven file)
+  pub sheetsFit : Each PlannedFits (sheetsGiven file)
+  pub eventsFit : Each TypedFits (eventsGiven file)
+  pub status : (room : ℕ) → length file ≤ room → planStatus (length (sheetsGiven file)) (length (eventsGiven file)) room ≡ 0
+  pub made : file ≡ planBytes (sheetsGiven file) (eventsGiven file)
 
 abbrev pub ReadIsWritten : Type 0
 ReadIsWritten = (file : List ℕ) → AreBytes file → plainFile file ≡ true → Made file

@@ -7,14 +7,18 @@ use lib.Dec.{leb, eqb}
 use lib.ListN.{length}
 use Rattle.layout.specs.declared.EventRecord.{EventRecord}
 use Rattle.layout.specs.Records.{eventOf}
+use Rattle.rules.specs.declared.Event.{Event}
 use Rattle.format.specs.Header.{recordsFrom}
 use Rattle.format.specs.File.{fileBytes}
 use Rattle.entries.specs.Entries.{entryOf}
-use Rattle.contents.specs.Contents.{sheetsIn, every, isPlain, isKnown}
+use Rattle.contents.specs.Contents.{every, sheetsIn, knownEvent, isPlain, isKnown}
 
--- the event records in bytes; `sheetsIn` has the sheets
+-- the event records in bytes, and the events that they say; `sheetsIn` and `plannedIn` have the sheets
 abbrev pub eventsIn : List ℕ → List EventRecord
 eventsIn bytes = recordsFrom eventOf bytes 0 (length bytes / 24)
+
+abbrev pub typedIn : List ℕ → List Event
+typedIn events = map knownEvent (map entryOf (eventsIn events))
 
 -- whole records, events of known kinds only, and zero bytes wherever they must be
 unfoldable pub packed : List ℕ → List ℕ → Bool

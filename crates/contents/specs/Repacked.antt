@@ -1,29 +1,27 @@
 -- What the writer of records makes is a lesson plan's file, and the other way round (document 02, R-2): both round trips, for a C program.
--- `proofs/RoundTrip.antt` proves it. Assumes nothing.
+-- `proofs/Repacked.antt` proves it. Assumes nothing.
 use Prim.Native.Nat.{ℕ, _*_, _≤_}
 use mathlib.Core.Bool.{true}
 use mathlib.Core.List.{List, _++_}
 use mathlib.Core.Path.{_≡_}
 use lib.ListN.{length, drop}
 use Rattle.fields.specs.Fields.{AreBytes}
-use Rattle.rules.specs.declared.Event.{Event}
 use Rattle.format.specs.Header.{firstEvent, sheetsOf}
-use Rattle.format.specs.File.{headerBytes}
-use Rattle.contents.specs.declared.PlannedSheet.{PlannedSheet}
-use Rattle.contents.specs.Plan.{planBytes}
-use Rattle.contents.specs.Contents.{Holds, plainFile}
-use Rattle.contents.specs.Packed.{packedBytes, packedStatus}
+use Rattle.format.specs.File.{headerBytes, Each}
+use Rattle.contents.specs.Plan.{PlannedFits, TypedFits, planBytes}
+use Rattle.contents.specs.Contents.{plannedIn, Holds, plainFile}
+use Rattle.contents.specs.Packed.{typedIn, packedBytes, packedStatus}
 
--- what is written of lent bytes: a header and these bytes as they are; it is the file of typed sheets and events, one for each record, and
--- the run has exactly these
+-- what is written of lent bytes: a header and these bytes as they are; it is the file of the sheets and events that the bytes say, one for
+-- each record, whose numbers have the file's widths, and the run has exactly these
 pub record Packs (sheets events : List ℕ) : Type 0 where
-  pub ss : List PlannedSheet
-  pub es : List Event
-  pub sheetsWhole : length sheets ≡ 24 * length ss
-  pub eventsWhole : length events ≡ 24 * length es
-  pub given : packedBytes sheets events ≡ headerBytes (length ss) (length es) ++ sheets ++ events
-  pub is : packedBytes sheets events ≡ planBytes ss es
-  pub holds : Holds (packedBytes sheets events) ss es
+  pub sheetsWhole : length sheets ≡ 24 * length (plannedIn sheets)
+  pub eventsWhole : length events ≡ 24 * length (typedIn events)
+  pub sheetsFit : Each PlannedFits (plannedIn sheets)
+  pub eventsFit : Each TypedFits (typedIn events)
+  pub given : packedBytes sheets events ≡ headerBytes (length (plannedIn sheets)) (length (typedIn events)) ++ sheets ++ events
+  pub is : packedBytes sheets events ≡ planBytes (plannedIn sheets) (typedIn events)
+  pub holds : Holds (packedBytes sheets events) (plannedIn sheets) (typedIn events)
 
 -- of all that is not turned away
 abbrev pub PackedIsPlan : Type 0

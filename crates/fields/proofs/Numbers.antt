@@ -114,7 +114,7 @@ bytes-number (suc k) s at h b =
 
 -- ---- in the n bytes from `at` on, what stands at i is what stands at `at + i` of all
 
-within : (k i n : ℕ) (l : List ℕ) → i + k ≤ n → take k (drop i (take n l)) ≡ take k (drop i l)
+pub within : (k i n : ℕ) (l : List ℕ) → i + k ≤ n → take k (drop i (take n l)) ≡ take k (drop i l)
 within k zero n l h = take-take k n l (omega arith)
 within k (suc i) zero l h = absurd (omega arith)
 within k (suc i) (suc n) [] h = refl

@@ -11,7 +11,7 @@ use Rattle.layout.specs.declared.SheetRecord.{SheetRecord}
 use Rattle.layout.specs.declared.EventRecord.{EventRecord}
 use Rattle.fields.specs.Fields.{AreBytes, bytesOf, wordsBytes, u32Bytes}
 use Rattle.layout.specs.Records.{recordAt, sheetOf, sheetBytes, eventOf, eventBytes}
-use Rattle.fields.proofs.Numbers.{number-bytes, bytes-number}
+use Rattle.fields.proofs.Numbers.{number-bytes, bytes-number, within}
 use Rattle.layout.proofs.RoundTrips.{length-record, record-below, length-sheet, sheet-read, sheet-fits, sheet-written}
 use Rattle.layout.proofs.RoundTrips.{length-event, event-read, event-fits, event-written}
 use Rattle.format.specs.Header.{sheetCount, eventCount, recordsFrom, sheetRecordsOf, eventsOf}
@@ -44,6 +44,11 @@ module _ {A : Type 0} (read : List ℕ → A) where
   pub records-drop : (s : List ℕ) (from at count : ℕ) → recordsFrom read (drop from s) at count ≡ recordsFrom read s (from + at) count
   records-drop s from at zero = refl
   records-drop s from at (suc count) = rw (drop-drop at from s, records-drop s from (at + 24) count, add-assoc from at 24)
+
+  -- and in the first bytes, as far as these go
+  pub records-take : (s : List ℕ) (n at count : ℕ) → at + 24 * count ≤ n → recordsFrom read (take n s) at count ≡ recordsFrom read s at count
+  records-take s n at zero h = refl
+  records-take s n at (suc count) h = rw (within 24 at n s (omega arith), records-take s n (at + 24) count (omega arith))
 
   pub records-fit : {P : A → Type 0} → ((b : List ℕ) → AreBytes b → P (read b)) → {s : List ℕ} → AreBytes s → (at count : ℕ) → Each P (recordsFrom read s at count)
   records-fit fits are at zero = none

@@ -61,7 +61,7 @@ sheets-found rs fits {b} e =
 
 -- ---- events and their entries
 
-pub never : {P : Type 0} → false ≡ true → P
+never : {P : Type 0} → false ≡ true → P
 never e = let z : _≡_ {A = ℕ} 0 1 = cc in absurd (omega arith)
 
 known-entry : (x : Entry) → isKnown x ≡ true → x ≡ Known (knownEvent x)

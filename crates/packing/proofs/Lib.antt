@@ -1,3 +1,2 @@
-pub mod Testing
 pub mod Parts
 pub mod Outcome

@@ -1,22 +1,8 @@
--- Sheets and events as the code goes over both: 24 bytes after 24 bytes. Assumes nothing.
-use Prim.Native.Nat.{ℕ, _/_}
-use mathlib.Core.Bool.{Bool}
+-- Sheets and events as the code puts both. Assumes nothing.
+use Prim.Native.Nat.{ℕ}
 use mathlib.Core.List.{List}
-use lib.ListN.{length}
 use Rattle.layout.specs.Records.{sheetOf, sheetBytes, eventOf, eventBytes}
-use Rattle.format.specs.Header.{recordsFrom}
-use Rattle.entries.specs.Entries.{entryOf}
-use Rattle.contents.specs.Contents.{isPlain, isKnown}
-use Rattle.packing.specs.declared.Part.{Part}
-
--- the bytes of each record
-abbrev pub piecesIn : List ℕ → List (List ℕ)
-piecesIn bytes = recordsFrom (λ (piece : List ℕ). piece) bytes 0 (length bytes / 24)
-
--- a sheet whose last four bytes are zero; an event of a known kind, with zero bytes where they must be
-abbrev pub partRight : Part → List ℕ → Bool
-partRight Part.Sheets piece = isPlain (sheetOf piece)
-partRight Part.Events piece = isKnown (entryOf (eventOf piece))
+use Rattle.validation.specs.declared.Part.{Part}
 
 -- a record's bytes, read and put
 abbrev pub partBytes : Part → List ℕ → List ℕ

@@ -7,24 +7,18 @@ ghost use lib.ListN.{length};
 ghost use Rattle.fields.specs.Fields.{splice};
 ghost use Rattle.layout.specs.Records.{recordAt};
 ghost use Rattle.layout.specs.Lent.{Puts};
-ghost use Rattle.contents.specs.Contents.{every, isKnown};
-ghost use Rattle.contents.specs.Packed.{packed, packedStatus};
+ghost use Rattle.contents.specs.Packed.{packedStatus};
 ghost use Rattle.packing.specs.Write.{FillsPacked};
-ghost use Rattle.packing.specs.Parts.{partRight, partBytes, piecesIn};
-use entries::entry_of;
+ghost use Rattle.validation.specs.Parts.{piecesIn};
+ghost use Rattle.packing.specs.Parts.{partBytes};
 use format::header::put_header;
 use layout::Filled;
 use layout::records::event_at;
 use layout::records::put_event;
 use layout::records::put_sheet;
 use layout::records::sheet_at;
-use rules::Entry;
-
-// What the records of a slice are.
-pub enum Part {
-    Sheets,
-    Events,
-}
+use validation::Part;
+use validation::is_packed;
 
 // Writes the session file of these sheets and events at the start of a lent buffer: 0, or 14, 11 or 15, which leaves the buffer as it was.
 pub fn write_records(sheets: &[u8], events: &[u8], out: &mut [u8]) -> Filled
@@ -58,60 +52,6 @@ fn status_for(sheets: &[u8], events: &[u8], room: usize) -> u8
         return 15;
     }
     0
-}
-
-// Whole records, each of them right: a sheet with its zero bytes, an event of a known kind with its.
-pub fn is_packed(sheets: &[u8], events: &[u8]) -> bool
-    ensures { λ r. ⌜ r ≡ packed (now (sheets .entry)) (now (events .entry)) ⌝ }
-{
-    if sheets.len() % 24 != 0 {
-        return false;
-    }
-    if events.len() % 24 != 0 {
-        return false;
-    }
-    if !all_right(Part::Sheets, sheets) {
-        return false;
-    }
-    all_right(Part::Events, events)
-}
-
-// Each record of a slice is right.
-fn all_right(part: Part, s: &[u8]) -> bool
-    ensures { λ r. ⌜ r ≡ every (partRight part) (piecesIn (now (s .entry))) ⌝ }
-{
-    let count = s.len() / 24;
-    let mut i = 0;
-    while i < count {
-        if !is_right(part, s, 24 * i) {
-            return false;
-        }
-        i += 1;
-    }
-    true
-}
-
-// A sheet whose last four bytes are zero; an event of a known kind, zero where it must be.
-fn is_right(part: Part, s: &[u8], at: usize) -> bool
-    requires { ⌜ at + 24 ≤ length (now s) ⌝ }
-    ensures { λ r. ⌜ r ≡ partRight part (recordAt (now (s .entry)) at) ⌝ }
-{
-    match part {
-        Part::Sheets => {
-            let sheet = sheet_at(s, at);
-            sheet.rest == 0
-        }
-        Part::Events => is_known(entry_of(event_at(s, at))),
-    }
-}
-
-fn is_known(entry: Entry) -> bool
-    ensures { λ r. ⌜ r ≡ isKnown entry ⌝ }
-{
-    match entry {
-        Entry::Known(_) => true,
-        Entry::Malformed(_) => false,
-    }
 }
 
 // Puts the records of a slice one after the other, from an offset on, and answers the position past them.

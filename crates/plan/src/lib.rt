@@ -8,16 +8,14 @@ ghost use Rattle.format.specs.File.{Each};
 ghost use Rattle.contents.specs.Plan.{plannedBytes, typedBytes, PlannedFits, TypedFits, planStatus};
 ghost use Rattle.contents.specs.Contents.{Holds};
 ghost use Rattle.plan.specs.Write.{FillsPlan};
-use crate::records::event_record;
-use crate::records::sheet_record;
 use contents::PlannedSheet;
 use format::header::put_header;
 use layout::Filled;
 use layout::records::put_event;
 use layout::records::put_sheet;
 use rules::Event;
-
-pub mod records;
+use typed::event_record;
+use typed::sheet_record;
 
 // Writes the session file of the first n sheets and m events at the start of a lent buffer: 0, or 14 or 15, which leaves the buffer as it
 // was. An array of so many events is large: a caller has it on its stack, and the call a copy.

@@ -2,56 +2,59 @@
 // standard output. A file that the writer makes comes out byte for byte; of any other nothing is written. `stdin` is the session of
 // document 01's "Session file and program", and `stdout` the same bytes.
 ghost use mathlib.Core.Path.{_≡_};
-ghost use mathlib.Core.Bool.{true, false};
 ghost use mathlib.Core.List.{map};
 ghost use Prim.Native.Nat.{_+_, _*_, _≤_};
 ghost use lib.ListN.{length, take};
-ghost use Rattle.fields.specs.Fields.{AreBytes};
 ghost use Rattle.layout.specs.Records.{sheetOf, eventOf};
 ghost use Rattle.format.specs.Header.{recordsFrom};
 ghost use Rattle.entries.specs.Entries.{entryOf};
-ghost use Rattle.contents.specs.Contents.{numbersOf, knownEvent, plainFile};
+ghost use Rattle.contents.specs.Contents.{numbersOf, knownEvent};
+ghost use Rattle.replan.specs.Again.{FillsAgain};
 use contents::PlannedSheet;
 use entries::entry_of;
 use format::header::event_count;
 use format::header::sheet_count;
 use format::header::well_formed;
+use layout::Filled;
 use layout::SheetRecord;
 use layout::records::event_at;
 use layout::records::sheet_at;
 use libc::STDIN_FILENO;
 use libc::STDOUT_FILENO;
-use packing::is_packed;
 use reader::first;
 use rules::Entry;
 use rules::Event;
+use validation::is_packed;
 
 fn main() {
     let mut input = [0u8; 65537];
     let n = io::read_full(STDIN_FILENO, &mut input);
     let mut out = [0u8; 65200];
-    let written = replan(&input[..n], &mut out);
+    let done = replan(&input[..n], &mut out);
+    let written = done.written;
     io::write_all(STDOUT_FILENO, &out[..written]);
 }
 
-// Answers how many bytes were written. A file that the writer makes stands at the start of a buffer that is long enough; of any other nothing
-// is written.
-fn replan(file: &[u8], out: &mut [u8]) -> usize
-    ensures { λ r. ⌜ r ≤ length (now (out .entry)) ⌝ }
-    ensures { λ r. ⌜ (AreBytes (now (file .entry)) → plainFile (now (file .entry)) ≡ true → length (now (file .entry)) ≤ length (now (out .entry)) → take r (now (out .exit)) ≡ now (file .entry)) ⌝ }
-    ensures { λ r. ⌜ (plainFile (now (file .entry)) ≡ false → r ≡ 0) ⌝ }
+// Puts a file that the writer makes at the start of a lent buffer: 0, or 12, 11 or 15, which leaves the buffer as it was.
+fn replan(file: &[u8], out: &mut [u8]) -> Filled
+    ensures { λ r. ⌜ FillsAgain (now (file .entry)) (now (out .entry)) (r .status) (r .written) (now (out .exit)) ⌝ }
 {
     if !well_formed(file) {
-        return 0;
+        return Filled {
+            status: 12,
+            written: 0,
+        };
     }
     let from = first(file);
     if !is_packed(&file[16..from], &file[from..]) {
-        return 0;
+        return Filled {
+            status: 11,
+            written: 0,
+        };
     }
     let n = sheet_count(file);
     let m = event_count(file);
-    let done = plan::write(sheets_in(file, n), n, events_in(file, from, m), m, out);
-    done.written
+    plan::write(sheets_in(file, n), n, events_in(file, from, m), m, out)
 }
 
 // The sheets of a file, blank ones after them.

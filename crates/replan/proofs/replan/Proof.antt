@@ -1,22 +1,18 @@
--- `replan::replan` meets its contract: it keeps within the file and the buffer, leaves a plain file as it is, and nothing of another.
--- Assumes nothing.
+-- `replan::replan` meets its contract: 12, 11, or what the writer leaves of the sheets and events that the reader gives. Assumes nothing.
 use native.Mathlib.Omega.{arith}
 use mathlib.Core.Bool.{true}
-use mathlib.Core.Path.{_≡_, refl, sym, _∙_}
+use mathlib.Core.Path.{_≡_, sym, _∙_}
 use borrow.Author.Needs.{needs}
 use borrow.Author.Tests.{not-true, not-false}
-use Rattle.layout.proofs.Lent.{fills-within}
+use Rattle.layout.proofs.Lent.{turned-away}
 use Rattle.format.specs.Header.{wellFormed}
 use Rattle.format.proofs.Shape.{Shape, shape}
-use Rattle.contents.proofs.RoundTrip.{never, plain}
-use Rattle.replan.proofs.Replanned.{replanned, packed-parts}
+use Rattle.replan.proofs.Replanned.{again-12, again-11, again-written, packed-parts}
 use Rattle.replan.proofs.replan.Statement.{statement}
 use Rattle.replan.proofs.replan.Tie as tie
 
 returns : tie.Need-returns
-returns c =
-    let w = sym (c .before .well-formed .ensures) ∙ not-true _ (c .if1 .taken) in
-    (search needs, (λ are h fits. never (sym w ∙ plain _ h .formed), λ h. refl))
+returns c = turned-away (again-12 _ _ (sym (c .before .well-formed .ensures) ∙ not-true _ (c .if1 .taken))) (λ z. absurd (omega arith))
 
 -- the file is well-formed from here on
 formed : (c : tie.Else1) → wellFormed (c .before .before .before .before .args .file .now) ≡ true
@@ -41,8 +37,9 @@ returns-2 : tie.Need-returns-2
 returns-2 c =
     let p = c .before in
     let f = p .before .before .before in
-    let e = packed-parts _ (f .first .ensures) (formed (f .before)) in
-    (search needs, (λ are h fits. never (sym (sym (p .is-packed .ensures) ∙ not-true _ (c .if2 .taken)) ∙ e ∙ h), λ h. refl))
+    let w = formed (f .before) in
+    let e = sym (packed-parts _ (f .first .ensures) w) ∙ sym (p .is-packed .ensures) ∙ not-true _ (c .if2 .taken) in
+    turned-away (again-11 _ _ w e) (λ z. absurd (omega arith))
 
 sheet-count-requires : tie.Need-sheet-count-requires
 sheet-count-requires c κs = has (c .before .before .before .before .before) .header
@@ -73,10 +70,8 @@ returns-3 c =
     let p = n .before .before in
     let f = p .before .before .before in
     let w = formed (f .before) in
-    let e = packed-parts _ (f .first .ensures) w in
-    let fills = d .write .ensures .0 in
-    let same = replanned _ (n .sheet-count .ensures) (m .event-count .ensures) (f .first .ensures) _ _ (ss .sheets-in .ensures) (es .events-in .ensures) fills in
-    (fills-within fills, (λ are h fits. same are w h fits, λ h. never (sym h ∙ sym e ∙ sym (p .is-packed .ensures) ∙ not-false _ (n .before .if2 .left))))
+    let e = sym (packed-parts _ (f .first .ensures) w) ∙ sym (p .is-packed .ensures) ∙ not-false _ (n .before .if2 .left) in
+    again-written _ (n .sheet-count .ensures) (m .event-count .ensures) (f .first .ensures) w _ _ (ss .sheets-in .ensures) (es .events-in .ensures) e (d .write .ensures .0)
 
 pub replan-spec : {M : Type 1} → statement M
 replan-spec =

@@ -1,10 +1,10 @@
--- `plan::records::event_with` meets its contract, field by field. Assumes nothing.
+-- `typed::event_with` meets its contract, field by field. Assumes nothing.
 use mathlib.Core.Path.{_≡_}
 use mir.Syntax.{w32}
 use mir.Val.{toZ, ofZ}
 use borrow.Author.Needs.{needs}
-use Rattle.plan.proofs.records.event_with.Statement.{statement}
-use Rattle.plan.proofs.records.event_with.Tie as tie
+use Rattle.typed.proofs.event_with.Statement.{statement}
+use Rattle.typed.proofs.event_with.Tie as tie
 
 returns : tie.Need-returns
 returns c =

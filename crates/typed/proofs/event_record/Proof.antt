@@ -1,10 +1,10 @@
--- `plan::records::event_record` meets its contract, kind by kind. Assumes nothing.
+-- `typed::event_record` meets its contract, kind by kind. Assumes nothing.
 use mathlib.Core.Path.{_≡_}
 use borrow.Author.Needs.{needs}
 use mir.Syntax.{w32}
 use mir.Val.{toZ, ofZ}
-use Rattle.plan.proofs.records.event_record.Statement.{statement}
-use Rattle.plan.proofs.records.event_record.Tie as tie
+use Rattle.typed.proofs.event_record.Statement.{statement}
+use Rattle.typed.proofs.event_record.Tie as tie
 
 returns : tie.Need-returns
 returns c = (rw (c .event-with .ensures .0, c .before .before .event .given .1), c .event-with .ensures .1)

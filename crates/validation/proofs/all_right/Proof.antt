@@ -1,12 +1,12 @@
--- `packing::all_right` meets its contract. Its loop has the invariant `Testing`. Assumes nothing.
+-- `validation::all_right` meets its contract. Its loop has the invariant `Testing`. Assumes nothing.
 use Prim.Native.Nat.{_-_}
 use mathlib.Core.Path.{sym, _∙_}
 use borrow.Author.Needs.{needs}
 use borrow.Author.Tests.{not-true, not-false}
-use Rattle.packing.specs.Parts.{partRight}
-use Rattle.packing.proofs.Testing.{Testing, begun, failed, turned, ended}
-use Rattle.packing.proofs.all_right.Statement.{statement}
-use Rattle.packing.proofs.all_right.Tie as tie
+use Rattle.validation.specs.Parts.{partRight}
+use Rattle.validation.proofs.Testing.{Testing, begun, failed, turned, ended}
+use Rattle.validation.proofs.all_right.Statement.{statement}
+use Rattle.validation.proofs.all_right.Tie as tie
 
 abbrev Inv-loop : tie.InvT-loop
 Inv-loop part s count i₀ i = Testing (partRight part) s count i

@@ -1,4 +1,4 @@
-// Typed sheets and events as the records of a file.
+// Typed sheets and events, as a lesson plan has them, as the records of a session file.
 ghost use mathlib.Core.Path.{_≡_};
 ghost use Rattle.layout.specs.Records.{SheetFits, EventFits};
 ghost use Rattle.entries.specs.Entries.{eventWith, recordOfEvent};

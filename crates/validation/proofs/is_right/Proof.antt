@@ -1,7 +1,7 @@
--- `packing::is_right` meets its contract, of a sheet and of an event. Assumes nothing.
+-- `validation::is_right` meets its contract, of a sheet and of an event. Assumes nothing.
 use borrow.Author.Needs.{needs}
-use Rattle.packing.proofs.is_right.Statement.{statement}
-use Rattle.packing.proofs.is_right.Tie as tie
+use Rattle.validation.proofs.is_right.Statement.{statement}
+use Rattle.validation.proofs.is_right.Tie as tie
 
 returns : tie.Need-returns
 returns c = rw (c .before .sheet-at .ensures, c .before .before .enum-told .given .1)

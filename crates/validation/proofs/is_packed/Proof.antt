@@ -1,10 +1,10 @@
--- `packing::is_packed` meets its contract, test by test. Assumes nothing.
+-- `validation::is_packed` meets its contract, test by test. Assumes nothing.
 use borrow.Author.Needs.{needs}
 use borrow.Author.Tests.{eq-eqb, ne-eqb, not-true, not-false}
 use Rattle.contents.specs.Packed.{packed}
-use Rattle.packing.proofs.Parts.{right-sheets, right-events}
-use Rattle.packing.proofs.is_packed.Statement.{statement}
-use Rattle.packing.proofs.is_packed.Tie as tie
+use Rattle.validation.proofs.Parts.{right-sheets, right-events}
+use Rattle.validation.proofs.is_packed.Statement.{statement}
+use Rattle.validation.proofs.is_packed.Tie as tie
 
 returns : tie.Need-returns
 unfolding packed

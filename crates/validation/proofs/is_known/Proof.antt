@@ -1,7 +1,7 @@
--- `packing::is_known` meets its contract, by the case of the entry. Assumes nothing.
+-- `validation::is_known` meets its contract, by the case of the entry. Assumes nothing.
 use borrow.Author.Needs.{needs}
-use Rattle.packing.proofs.is_known.Statement.{statement}
-use Rattle.packing.proofs.is_known.Tie as tie
+use Rattle.validation.proofs.is_known.Statement.{statement}
+use Rattle.validation.proofs.is_known.Tie as tie
 
 returns : tie.Need-returns
 returns c = rw (c .enum-told .given .1)

@@ -62,8 +62,7 @@ fn put_sheets(sheets: [PlannedSheet; 16], count: usize, out: &mut [u8], at: usiz
 {
     let mut i = 0;
     while i < count {
-        let sheet = sheets[i];
-        put_sheet(out, at + 24 * i, sheet_record(sheet));
+        put_sheet(out, at + 24 * i, sheet_record(sheets[i]));
         i += 1;
     }
     at + 24 * count
@@ -76,8 +75,7 @@ fn put_events(events: [Event; 2700], count: usize, out: &mut [u8], at: usize) ->
 {
     let mut i = 0;
     while i < count {
-        let event = events[i];
-        put_event(out, at + 24 * i, event_record(event));
+        put_event(out, at + 24 * i, event_record(events[i]));
         i += 1;
     }
     at + 24 * count

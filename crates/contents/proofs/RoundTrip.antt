@@ -172,6 +172,6 @@ read-is-written file are h =
       holds = holds w a (known-entries (entriesOf file) (p .events));
       sheetsFit = each-of-map {P = SheetFits} recordOfSheet (sheetsGiven file) (rw (← a, found) (m .sheetsFit));
       eventsFit = each-of-map {P = EventFits} recordOfEvent (eventsGiven file) (rw (← e) (m .eventsFit));
-      status = λ room fits. rw (sheets-given file w, events-given file w, plan-status file w room, le-leb _ _ fits);
+      status = λ room fits. rw (sheets-given file w, events-given file w, plan-status file w room, le-leb (length file) room fits);
       made = m .is ∙ rw (← a, ← e, found);
     }

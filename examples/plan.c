@@ -15,10 +15,20 @@
 
 enum { ACCEPTED = 0, REFUSED = 1, TROUBLE = 2 };
 
-/* Zero before anything is put: so are the bytes that no kind has and the fields that one lacks. */
-static uint8_t sheet[IRGA_RECORD_BYTES];
-static uint8_t events[(IRGA_EVENTS_MAX + 1) * IRGA_RECORD_BYTES];
-static size_t planned; /* bytes of events so far */
+/* Records of 24 bytes: so much room, and how many bytes of it are taken. */
+struct records {
+    uint8_t *bytes;
+    size_t room, length;
+};
+
+/*
+ * Zero before anything is put: so are the bytes that no kind has and the fields that one lacks.
+ * The last record of each is for one too many: a lesson that has it is refused with 14.
+ */
+static uint8_t sheet_bytes[(IRGA_SHEETS_MAX + 1) * IRGA_RECORD_BYTES];
+static uint8_t event_bytes[(IRGA_EVENTS_MAX + 1) * IRGA_RECORD_BYTES];
+static struct records sheets = {sheet_bytes, sizeof sheet_bytes, 0};
+static struct records events = {event_bytes, sizeof event_bytes, 0};
 
 static uint8_t file[IRGA_FILE_MAX];
 static uint8_t lines[IRGA_LINES_MAX];
@@ -30,12 +40,23 @@ static void put(uint8_t *place, uint32_t number) {
         place[byte] = (uint8_t)(number >> 8 * byte);
 }
 
-/* The last place is for one event too many; a lesson that fills it is refused with 14. */
+static uint8_t *next(struct records *to) {
+    if (to->length < to->room)
+        to->length += IRGA_RECORD_BYTES;
+    return to->bytes + to->length - IRGA_RECORD_BYTES;
+}
+
+static void add_sheet(int32_t a1, int32_t a2, int32_t a3, uint32_t t0, uint32_t k) {
+    uint8_t *sheet = next(&sheets);
+    put(sheet + IRGA_SHEET_A1, (uint32_t)a1);
+    put(sheet + IRGA_SHEET_A2, (uint32_t)a2);
+    put(sheet + IRGA_SHEET_A3, (uint32_t)a3);
+    put(sheet + IRGA_SHEET_T0, t0);
+    put(sheet + IRGA_SHEET_K, k);
+}
+
 static uint8_t *add(enum irga_kind kind) {
-    uint8_t *event;
-    if (planned < sizeof events)
-        planned += IRGA_RECORD_BYTES;
-    event = events + planned - IRGA_RECORD_BYTES;
+    uint8_t *event = next(&events);
     event[IRGA_EVENT_KIND] = (uint8_t)kind;
     return event;
 }
@@ -50,11 +71,7 @@ static void add_sample(int32_t raw) {
 
 /* Three readings against a dry reference gas of 1,000 umol/mol, and their area. */
 static void prepare(void) {
-    put(sheet + IRGA_SHEET_A1, 150000000);
-    put(sheet + IRGA_SHEET_A2, 5000000);
-    put(sheet + IRGA_SHEET_A3, 5000000);
-    put(sheet + IRGA_SHEET_T0, 29815);
-    put(sheet + IRGA_SHEET_K, 200000000);
+    add_sheet(150000000, 5000000, 5000000, 29815, 200000000);
     put(add(IRGA_LOAD) + IRGA_EVENT_C, 0);
     put(add(IRGA_REFERENCE) + IRGA_EVENT_C, 1000000000);
     add(IRGA_START);
@@ -109,7 +126,8 @@ int main(int count, char **words) {
         return TROUBLE;
     }
     prepare();
-    status = irga_write(sheet, sizeof sheet, events, planned, file, sizeof file, &length);
+    status = irga_write(sheets.bytes, sheets.length, events.bytes, events.length, file, sizeof file,
+                        &length);
     if (status != IRGA_ACCEPTED)
         return refused("the lesson", status);
     stored = store(words[1], length);

@@ -62,22 +62,19 @@ fn the_longest_plan_and_the_ends() {
     assert!(assert_planned_again(&Session::default().to_bytes()));
 }
 
-/// README says that the typed writer wants some 200 KiB of stack: the longest plan, with its
-/// arrays and their copies, comes out of one of 256 KiB, and not of one of 128.
+/// What README says of the program's stack, its buffers and the writer's arrays together.
 #[test]
-fn the_stack_of_the_typed_writer() {
+fn the_longest_plan_in_256_kibibytes_of_stack() {
     let mut lesson = lesson::session();
     lesson.events = lesson.events.repeat(9);
     lesson.events.truncate(2_700);
     let path = Path::new(env!("CARGO_TARGET_TMPDIR")).join("longest.session");
     fs::write(&path, lesson.to_bytes()).expect("a written file");
     let program = Executable::beside("replan").path;
-    for (kilobytes, enough) in [("256", true), ("128", false)] {
-        let mut shell = Command::new("sh");
-        shell.args(["-c", "ulimit -s \"$1\" && exec \"$0\""]).arg(&program).arg(kilobytes);
-        let output = shell.stdin(File::open(&path).expect("the file")).output().expect("a start");
-        assert_eq!(output.stdout == lesson.to_bytes(), enough, "{kilobytes} KiB");
-    }
+    let mut shell = Command::new("sh");
+    shell.args(["-c", "ulimit -s 256 && exec \"$0\""]).arg(&program);
+    let output = shell.stdin(File::open(&path).expect("the file")).output().expect("a start");
+    assert!(output.stdout == lesson.to_bytes(), "{}", output.status);
 }
 
 /// Each bit that must be zero, headers whose sums wrap, and what is no file.

@@ -5,7 +5,7 @@
 
 use crate::bench;
 use crate::engine::Event;
-use crate::file::{EventRecord, Session};
+use crate::file::{EventRecord, Session, EVENTS_LIMIT, SHEETS_LIMIT};
 use crate::plan::Plan;
 
 /// Pressure, temperature and vapour pressure in the chamber.
@@ -42,6 +42,15 @@ pub fn session() -> Session {
     Session {
         sheets: vec![bench::table_sheet()],
         events: events().iter().map(EventRecord::of).collect(),
+    }
+}
+
+/// The lesson again and again, until it has as many sheets and events as a file may have.
+pub fn longest() -> Session {
+    let Session { sheets, events } = session();
+    Session {
+        sheets: sheets.into_iter().cycle().take(SHEETS_LIMIT).collect(),
+        events: events.into_iter().cycle().take(EVENTS_LIMIT).collect(),
     }
 }
 

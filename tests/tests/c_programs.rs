@@ -7,8 +7,7 @@ use std::fs::{self, File};
 use std::path::{Path, PathBuf};
 use std::process::{Command, Output, Stdio};
 
-use irga_tests::bench;
-use irga_tests::file::{self, Session};
+use irga_tests::file;
 use irga_tests::harness::{Executable, Program};
 use irga_tests::lesson;
 use irga_tests::random::Random;
@@ -67,14 +66,6 @@ fn archive_asks_for_nothing() {
     assert!(said.contains(".o:") && asked.is_empty(), "{said}");
 }
 
-/// As many sheets and events as a file may have.
-fn longest() -> Session {
-    Session {
-        sheets: vec![bench::sheet(); file::SHEETS_LIMIT],
-        events: vec![Default::default(); file::EVENTS_LIMIT],
-    }
-}
-
 /// Where document 01 has the fields of a record.
 const OFFSETS: [(&str, usize); 16] = [
     ("IRGA_SHEET_A1", 0),
@@ -122,7 +113,7 @@ fn constants() -> Vec<(&'static str, usize)> {
         ("IRGA_LINE_ROOM", file::LINE_ROOM),
         ("IRGA_SHEETS_MAX", sheets),
         ("IRGA_EVENTS_MAX", events),
-        ("IRGA_FILE_MAX", longest().to_bytes().len()),
+        ("IRGA_FILE_MAX", lesson::longest().to_bytes().len()),
         ("IRGA_ANSWERS_MAX", file::RECORD_BYTES * events),
         ("IRGA_LINES_MAX", file::LINE_ROOM * events),
         ("IRGA_ACCEPTED", 0),
@@ -306,7 +297,7 @@ fn readings_of_what_is_no_session() {
     assert_said(&run(&program, &[&damaged], None), 1, "refused 12, ");
     // The longest session is read whole, and one byte more is seen.
     let long = scratch("long.session");
-    let mut bytes = longest().to_bytes();
+    let mut bytes = lesson::longest().to_bytes();
     fs::write(&long, &bytes).expect("a written file");
     assert_eq!(run(&program, &[&long], None).status.code(), Some(0));
     bytes.push(0);

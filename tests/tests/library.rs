@@ -303,10 +303,7 @@ fn plans_that_are_owed_a_status() {
 /// As many sheets and events as a file may have, most of them accepted, there and back.
 #[test]
 fn the_longest_plan() {
-    let mut lesson = lesson::session();
-    lesson.sheets = lesson.sheets.repeat(16);
-    lesson.events = lesson.events.repeat(9);
-    lesson.events.truncate(2_700);
+    let mut lesson = lesson::longest();
     let (file, mut out) = (lesson.to_bytes(), vec![0xA5; 65_200]);
     assert_eq!(library::write(&lesson.records(), &mut out), Outcome { status: 0, written: 65_200 });
     assert!(out == file && Session::open(&out) == Some(lesson.clone()));

@@ -49,10 +49,7 @@ fn the_example_of_the_paper() {
 /// As many sheets and events as a file may have, one event more, one sheet more, none at all.
 #[test]
 fn the_longest_plan_and_the_ends() {
-    let mut lesson = lesson::session();
-    lesson.sheets = lesson.sheets.repeat(16);
-    lesson.events = lesson.events.repeat(9);
-    lesson.events.truncate(2_700);
+    let mut lesson = lesson::longest();
     assert!(assert_planned_again(&lesson.to_bytes()));
     lesson.events.push(lesson.events[0]);
     assert!(!assert_planned_again(&lesson.to_bytes()));
@@ -65,9 +62,7 @@ fn the_longest_plan_and_the_ends() {
 /// What README says of the program's stack, its buffers and the writer's arrays together.
 #[test]
 fn the_longest_plan_in_256_kibibytes_of_stack() {
-    let mut lesson = lesson::session();
-    lesson.events = lesson.events.repeat(9);
-    lesson.events.truncate(2_700);
+    let lesson = lesson::longest();
     let path = Path::new(env!("CARGO_TARGET_TMPDIR")).join("longest.session");
     fs::write(&path, lesson.to_bytes()).expect("a written file");
     let program = Executable::beside("replan").path;

@@ -30,7 +30,7 @@ every test (a ∷ rest) = test a && every test rest
 
 -- ---- what the reader gives
 
--- the sheet records in bytes, as many as they hold, and what a record says of a sheet
+-- the sheet records in bytes, as many as they hold; what a record says of a sheet; and the sheets that the bytes say
 abbrev pub sheetsIn : List ℕ → List SheetRecord
 sheetsIn bytes = recordsFrom sheetOf bytes 0 (sheetsHeld bytes)
 

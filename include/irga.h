@@ -7,9 +7,12 @@
  * the numbers out of such a record as doubles; irga_lines gives the same answers as text.
  * irga_write makes a session file, so that a lesson can be prepared in advance.
  *
- * The library is libhost.a, for x86-64 Linux. It calls no other library:
+ * The library is libhost.a, for x86-64 Linux, which `rt staticlib host` makes. It calls no
+ * other library:
  *
  *     cc -std=c99 -Iinclude examples/readings.c target/staticlib/libhost.a -o readings
+ *
+ * examples/readings.c reads a session, examples/plan.c prepares one.
  *
  * What holds for all five functions:
  *
@@ -117,7 +120,7 @@ enum irga_refusal {
                                       multiple of 24, or such a byte of a sheet */
     IRGA_MALFORMED_FILE = 12,      /* header or length not as the format says */
     IRGA_OUTPUT_TOO_SHORT = 13,    /* the output is shorter than the function asks */
-    IRGA_TOO_MANY = 14,            /* more than 16 sheets or 2,700 events */
+    IRGA_TOO_MANY = 14,            /* more bytes than 16 sheets or 2,700 events have */
     IRGA_NO_ROOM = 15              /* the buffer is shorter than the file that is to be
                                       written */
 };

@@ -448,7 +448,7 @@ fn sessions_and_versions_of_the_gate() {
     let sessions = number(SESSIONS);
     assert_says(&format!("which go through {sessions} sessions with the proved program"));
     assert_says(&format!("and through {sessions} twice with the library"));
-    assert_says(&format!("and have it write {sessions} plans and run them"));
+    assert_says(&format!("and hand it {sessions} plans and {sessions} with faults to write,"));
     assert!(GATE.contains(&format!("\nexport IRGA_SESSIONS={SESSIONS}\n")));
     assert_says(&format!("`cargo` (Rust {} or later)", env!("CARGO_PKG_RUST_VERSION")));
 }

@@ -6,6 +6,7 @@ use std::fs::{self, File};
 use std::path::Path;
 use std::process::Command;
 
+use irga_tests::figures::in_one_line;
 use irga_tests::file::{self, Session};
 use irga_tests::harness::{Executable, Program};
 use irga_tests::hostile;
@@ -61,13 +62,16 @@ fn the_longest_plan_and_the_ends() {
 
 /// What README says of the program's stack, its buffers and the writer's arrays together.
 #[test]
-fn the_longest_plan_in_256_kibibytes_of_stack() {
+fn the_longest_plan_in_little_stack() {
+    let kibibytes = "256";
+    let says = format!("all in {kibibytes} KiB of stack, its two buffers included");
+    assert!(in_one_line(include_str!("../../README.md")).contains(&says), "{says}");
     let lesson = lesson::longest();
     let path = Path::new(env!("CARGO_TARGET_TMPDIR")).join("longest.session");
     fs::write(&path, lesson.to_bytes()).expect("a written file");
     let program = Executable::beside("replan").path;
     let mut shell = Command::new("sh");
-    shell.args(["-c", "ulimit -s 256 && exec \"$0\""]).arg(&program);
+    shell.args(["-c", "ulimit -s \"$1\" && exec \"$0\""]).arg(&program).arg(kibibytes);
     let output = shell.stdin(File::open(&path).expect("the file")).output().expect("a start");
     assert!(output.stdout == lesson.to_bytes(), "{}", output.status);
 }

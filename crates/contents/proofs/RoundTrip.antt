@@ -32,7 +32,7 @@ use Rattle.contents.specs.declared.PlannedSheet.{PlannedSheet}
 use Rattle.contents.specs.Plan.{recordOfSheet, PlannedFits, TypedFits, planBytes, planStatus}
 use Rattle.contents.proofs.Lookups.{planned-loads}
 use Rattle.contents.proofs.Planned.{Served, sheets-planned, events-planned}
-use Rattle.contents.specs.Contents.{every, sheetsIn, numbersOf, knownEvent, sheetsGiven, eventsGiven, isPlain, Holds, WrittenIsRead, isKnown, plainFile, ReadIsWritten}
+use Rattle.contents.specs.Contents.{every, sheetsIn, numbersOf, knownEvent, sheetsGiven, eventsGiven, isPlain, HoldsPlan, WrittenIsRead, isKnown, plainFile, ReadIsWritten}
 
 -- ---- sheets and their records
 
@@ -98,7 +98,7 @@ each-of-map f (a ∷ xs) (more p ps) = more p (each-of-map f xs ps)
 
 -- a file whose records are those of a plan holds it
 pub holds : {file : List ℕ} {ss : List PlannedSheet} {es : List Event} → wellFormed file ≡ true → sheetsIn (sheetsOf file) ≡ map recordOfSheet ss
-    → entriesOf file ≡ map Known es → Holds file ss es
+    → entriesOf file ≡ map Known es → HoldsPlan file ss es
 holds {file} {ss} w s e =
     record { formed = w; sheets = rw s (numbers-back ss); plain = rw s (all-plain ss); loads = planned-loads (sheetsOf file) ss s; events = e }
 
@@ -115,7 +115,7 @@ written-is-read ss es few short fs fe =
 -- so does the start of a buffer in which it stands
 pub held : (sheets : List PlannedSheet) (n : ℕ) (events : List Event) (m : ℕ) → n ≤ length sheets → m ≤ length events → {room : ℕ} → Served n m room
     → Each PlannedFits (take n sheets) → Each TypedFits (take m events)
-    → {old out : List ℕ} {past : ℕ} → Puts old 0 (planBytes (take n sheets) (take m events)) out past → Holds (take past out) (take n sheets) (take m events)
+    → {old out : List ℕ} {past : ℕ} → Puts old 0 (planBytes (take n sheets) (take m events)) out past → HoldsPlan (take past out) (take n sheets) (take m events)
 held sheets n events m hn hm s fs fe {old} p =
     let file = planBytes (take n sheets) (take m events) in
     let few : length (take n sheets) ≤ 16 = rw (sheets-planned sheets n events m hn hm) (s .few) in

@@ -71,7 +71,7 @@ foundAmong (s ∷ ss) (suc index) = foundAmong ss index
 -- a file of accepted header and length, of which the run has exactly these sheets and these events: the sheets are those that it hands to
 -- the engine, with zero bytes after each, and a load of any index finds what it is to find among them; the entries that are answered are
 -- these events
-pub record Holds (file : List ℕ) (ss : List PlannedSheet) (es : List Event) : Type 0 where
+pub record HoldsPlan (file : List ℕ) (ss : List PlannedSheet) (es : List Event) : Type 0 where
   pub formed : wellFormed file ≡ true
   pub sheets : sheetsGiven file ≡ ss
   pub plain : every isPlain (sheetsIn (sheetsOf file)) ≡ true
@@ -82,7 +82,7 @@ pub record Holds (file : List ℕ) (ss : List PlannedSheet) (es : List Event) : 
 abbrev pub WrittenIsRead : Type 0
 WrittenIsRead =
     (ss : List PlannedSheet) (es : List Event) → length ss ≤ 16 → length es ≤ 2700 → Each PlannedFits ss → Each TypedFits es
-    → Holds (planBytes ss es) ss es
+    → HoldsPlan (planBytes ss es) ss es
 
 -- ---- read, then written
 
@@ -98,7 +98,7 @@ plainFile file = wellFormed file && every isPlain (sheetsIn (sheetsOf file)) && 
 -- it holds the sheets and events that the reader gives of it, whose numbers have the file's widths; a writer with room for it does not turn
 -- them away, and what it makes of them is the file, byte for byte
 pub record Made (file : List ℕ) : Type 0 where
-  pub holds : Holds file (sheetsGiven file) (eventsGiven file)
+  pub holds : HoldsPlan file (sheetsGiven file) (eventsGiven file)
   pub sheetsFit : Each PlannedFits (sheetsGiven file)
   pub eventsFit : Each TypedFits (eventsGiven file)
   pub status : (room : ℕ) → length file ≤ room → planStatus (length (sheetsGiven file)) (length (eventsGiven file)) room ≡ 0

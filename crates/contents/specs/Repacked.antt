@@ -9,7 +9,7 @@ use Rattle.fields.specs.Fields.{AreBytes}
 use Rattle.format.specs.Header.{firstEvent, sheetsOf}
 use Rattle.format.specs.File.{headerBytes, Each}
 use Rattle.contents.specs.Plan.{PlannedFits, TypedFits, planBytes}
-use Rattle.contents.specs.Contents.{plannedIn, Holds, plainFile}
+use Rattle.contents.specs.Contents.{plannedIn, HoldsPlan, plainFile}
 use Rattle.contents.specs.Packed.{typedIn, packedBytes, packedStatus}
 
 -- what is written of lent bytes: a header and these bytes as they are; it is the file of the sheets and events that the bytes say, one for
@@ -21,7 +21,7 @@ pub record Packs (sheets events : List ℕ) : Type 0 where
   pub eventsFit : Each TypedFits (typedIn events)
   pub given : packedBytes sheets events ≡ headerBytes (length (plannedIn sheets)) (length (typedIn events)) ++ sheets ++ events
   pub is : packedBytes sheets events ≡ planBytes (plannedIn sheets) (typedIn events)
-  pub holds : Holds (packedBytes sheets events) (plannedIn sheets) (typedIn events)
+  pub holds : HoldsPlan (packedBytes sheets events) (plannedIn sheets) (typedIn events)
 
 -- of all that is not turned away
 abbrev pub PackedIsPlan : Type 0

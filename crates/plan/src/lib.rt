@@ -6,7 +6,7 @@ ghost use lib.ListN.{length, take};
 ghost use Rattle.layout.specs.Lent.{Puts};
 ghost use Rattle.format.specs.File.{Each};
 ghost use Rattle.contents.specs.Plan.{plannedBytes, typedBytes, PlannedFits, TypedFits, planStatus};
-ghost use Rattle.contents.specs.Contents.{Holds};
+ghost use Rattle.contents.specs.Contents.{HoldsPlan};
 ghost use Rattle.plan.specs.Write.{FillsPlan};
 use contents::PlannedSheet;
 use format::header::put_header;
@@ -27,7 +27,7 @@ pub fn write(
     out: &mut [u8],
 ) -> Filled
     ensures { λ r. ⌜ FillsPlan sheets n events m (now (out .entry)) (r .status) (r .written) (now (out .exit)) ⌝ }
-    ensures { λ r. ⌜ (r .status ≡ 0 → Holds (take (r .written) (now (out .exit))) (take n sheets) (take m events)) ⌝ }
+    ensures { λ r. ⌜ (r .status ≡ 0 → HoldsPlan (take (r .written) (now (out .exit))) (take n sheets) (take m events)) ⌝ }
 {
     let status = status_for(n, m, out.len());
     if status != 0 {

@@ -11,7 +11,7 @@ ghost use Rattle.contents.specs.Packed.{packedStatus};
 ghost use Rattle.packing.specs.Write.{FillsPacked};
 ghost use Rattle.validation.specs.Parts.{piecesIn};
 ghost use Rattle.packing.specs.Parts.{partBytes};
-use format::header::put_header;
+use heading::put_header;
 use layout::Filled;
 use layout::records::event_at;
 use layout::records::put_event;

@@ -9,7 +9,7 @@ ghost use Rattle.contents.specs.Plan.{plannedBytes, typedBytes, PlannedFits, Ty
 ghost use Rattle.contents.specs.Contents.{HoldsPlan};
 ghost use Rattle.plan.specs.Write.{FillsPlan};
 use contents::PlannedSheet;
-use format::header::put_header;
+use heading::put_header;
 use layout::Filled;
 use layout::records::put_event;
 use layout::records::put_sheet;

@@ -1,9 +1,9 @@
--- `format::header::put_header` meets its contract: four words. Assumes nothing.
+-- `heading::put_header` meets its contract: four words. Assumes nothing.
 use mathlib.Core.Path.{refl}
 use borrow.Author.Needs.{needs}
 use Rattle.fields.specs.Fields.{bytesOf, wordsBytes}
-use Rattle.format.proofs.header.put_header.Statement.{statement}
-use Rattle.format.proofs.header.put_header.Tie as tie
+use Rattle.heading.proofs.put_header.Statement.{statement}
+use Rattle.heading.proofs.put_header.Tie as tie
 
 returns : tie.Need-returns
 unfolding wordsBytes bytesOf

@@ -12,7 +12,6 @@ use lib.Seq.{take-at, length-take-le}
 use Rattle.curve.proofs.Within.{both}
 use Rattle.layout.specs.declared.SheetRecord.{SheetRecord}
 use Rattle.layout.specs.declared.EventRecord.{EventRecord}
-use Rattle.fields.specs.Fields.{AreBytes}
 use Rattle.layout.specs.Lent.{Puts}
 use Rattle.layout.specs.Records.{sheetOf, sheetBytes, SheetFits, eventOf, EventFits}
 use Rattle.layout.proofs.RoundTrips.{length-sheet, sheet-read}

@@ -14,6 +14,7 @@
 
 #![deny(unsafe_code)]
 
+pub mod archive;
 pub mod bench;
 pub mod big;
 pub mod drift;
@@ -23,12 +24,16 @@ pub mod figures;
 pub mod file;
 pub mod harness;
 pub mod hostile;
+pub mod instructions;
 pub mod ledger;
 pub mod lesson;
 #[cfg(feature = "library")]
 pub mod library;
+pub mod pace;
 pub mod plan;
 pub mod random;
 pub mod rules;
 pub mod sessions;
+pub mod sources;
+pub mod trial;
 pub mod worst;

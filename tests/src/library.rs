@@ -4,6 +4,7 @@
 
 use std::os::raw::c_double;
 
+use crate::archive::{over_lent, UNWRITTEN};
 use crate::file::{Outcome, Records};
 
 extern "C" {
@@ -42,20 +43,6 @@ extern "C" {
         out_length: usize,
         written: *mut usize,
     ) -> u8;
-}
-
-/// No length of anything, so that a call that leaves it shows.
-const UNWRITTEN: usize = usize::MAX;
-
-type OverLent = unsafe extern "C" fn(*const u8, usize, *mut u8, usize, *mut usize) -> u8;
-
-/// Calls one of the two functions over a lent file and a lent output.
-#[allow(unsafe_code)]
-fn over_lent(function: OverLent, file: &[u8], output: &mut [u8]) -> Outcome {
-    let mut written = UNWRITTEN;
-    let (out, room) = (output.as_mut_ptr(), output.len());
-    let status = unsafe { function(file.as_ptr(), file.len(), out, room, &mut written) };
-    Outcome { status, written }
 }
 
 /// Runs a lent file and writes the answers from the start of the lent output.

@@ -16,12 +16,12 @@ pub fn near(a: i64, b: u64) -> i64
     requires { ⌜ (natAbs a ≤ 4000000000000000000) × (0 < b) × (b ≤ 1000000000000000000) ⌝ }
     ensures { λ r. ⌜ r ≡ nearest a b ⌝ }
 {
-    let m = magnitude(a);
+    // The size is taken where the sign is known, so that the compiler need not test it again.
     if a < 0 {
         // A half goes up, which is toward 0 here.
-        negative(quotient(m, b - 1, b))
+        negative(quotient(magnitude(a), b - 1, b))
     } else {
-        positive(quotient(m, b, b))
+        positive(quotient(magnitude(a), b, b))
     }
 }
 

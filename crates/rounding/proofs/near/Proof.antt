@@ -14,11 +14,17 @@ use Rattle.rounding.proofs.Nearest.{at-negative, at-nonnegative}
 use Rattle.rounding.proofs.near.Statement.{statement}
 use Rattle.rounding.proofs.near.Tie as tie
 
-m-is : (c : tie.After-magnitude) → c .magnitude .result ≡ natAbs (c .before .args .a)
-m-is c = let fa = c .before .fits .a in simp toZ-ofZ at (c .magnitude .ensures)
+m-is : (c : tie.After-magnitude) → c .magnitude .result ≡ natAbs (c .before .before .args .a)
+m-is c = let fa = c .before .before .fits .a in simp toZ-ofZ at (c .magnitude .ensures)
+
+m-is-2 : (c : tie.After-magnitude2) → c .magnitude2 .result ≡ natAbs (c .before .before .args .a)
+m-is-2 c = let fa = c .before .before .fits .a in simp toZ-ofZ at (c .magnitude2 .ensures)
 
 quotient-requires : tie.Need-quotient-requires
-quotient-requires c κs = omega (arith, m-is (c .before))
+quotient-requires c κs = omega (arith, m-is c)
+
+quotient-requires-2 : tie.Need-quotient-requires-2
+quotient-requires-2 c κs = omega (arith, m-is-2 c)
 
 -- a quotient of numbers within their limits fits
 small : (m half b : ℕ) → m ≤ 4000000000000000000 → half ≤ 1000000000000000000 → (2 * m + half) / (2 * b) ≤ 9000000000000000000
@@ -27,39 +33,35 @@ small m half b h k = omega (arith, div-le-self (2 * m + half) (2 * b))
 negative-requires : tie.Need-negative-requires
 negative-requires c κs =
     let s = c .before .before .before in
-    let h = m-is (c .before .before) in
-    rw (c .quotient .ensures) (small (c .before .before .magnitude .result) (s .args .b - 1) (s .args .b) (omega arith) (omega arith))
-
-quotient-requires-2 : tie.Need-quotient-requires-2
-quotient-requires-2 c κs = omega (arith, m-is (c .before))
+    rw (c .quotient .ensures) (small (c .before .magnitude .result) (s .args .b - 1) (s .args .b) (omega (arith, m-is (c .before))) (omega arith))
 
 positive-requires : tie.Need-positive-requires
 positive-requires c κs =
     let s = c .before .before .before in
-    rw (c .quotient2 .ensures) (small (c .before .before .magnitude .result) (s .args .b) (s .args .b) (omega (arith, m-is (c .before .before))) (omega arith))
+    rw (c .quotient2 .ensures) (small (c .before .magnitude2 .result) (s .args .b) (s .args .b) (omega (arith, m-is-2 (c .before))) (omega arith))
 
 returns : tie.Need-returns
 returns c =
     let s = c .before .before .before .before in
     let b = s .args .b in
     let fa = s .fits .a in
-    let t : ltZ (s .args .a) (pos 0) ≡ true = simp toZ-ofZ at (c .before .before .if1 .taken) in
+    let t : ltZ (s .args .a) (pos 0) ≡ true = simp toZ-ofZ at (c .before .before .before .if1 .taken) in
     let r : SFits w64 (c .negative .result) = search needs in
     toZ-ofZ r ∙ c .negative .ensures ∙ ap (λ (q : ℕ). negℤ (pos q)) (c .before .quotient .ensures)
-    ∙ ap (λ (m : ℕ). negℤ (pos ((2 * m + (b - 1)) / (2 * b)))) (m-is (c .before .before .before)) ∙ at-negative (s .args .a) b (omega arith) t
+    ∙ ap (λ (m : ℕ). negℤ (pos ((2 * m + (b - 1)) / (2 * b)))) (m-is (c .before .before)) ∙ at-negative (s .args .a) b (omega arith) t
 
 returns-2 : tie.Need-returns-2
 returns-2 c =
     let s = c .before .before .before .before in
     let b = s .args .b in
     let fa = s .fits .a in
-    let t : ltZ (s .args .a) (pos 0) ≡ false = simp toZ-ofZ at (c .before .before .if1 .left) in
+    let t : ltZ (s .args .a) (pos 0) ≡ false = simp toZ-ofZ at (c .before .before .before .if1 .left) in
     let r : SFits w64 (c .positive .result) = search needs in
     toZ-ofZ r ∙ c .positive .ensures ∙ ap pos (c .before .quotient2 .ensures)
-    ∙ ap (λ (m : ℕ). pos ((2 * m + b) / (2 * b))) (m-is (c .before .before .before)) ∙ at-nonnegative (s .args .a) b t
+    ∙ ap (λ (m : ℕ). pos ((2 * m + b) / (2 * b))) (m-is-2 (c .before .before)) ∙ at-nonnegative (s .args .a) b t
 
 pub near-spec : {M : Type 1} → statement M
 near-spec =
     tie.close
     (tie.spec
-    (λ c κs. search needs) (λ c. search needs) quotient-requires negative-requires quotient-requires-2 positive-requires returns returns-2)
+    (λ c κs. search needs) (λ c. search needs) quotient-requires negative-requires (λ c κs. search needs) quotient-requires-2 positive-requires returns returns-2)

@@ -19,7 +19,8 @@ use Tree::{Group, Leaf};
 #[derive(Clone, Debug, PartialEq)]
 enum Item {
     Module,
-    Type,
+    /// A struct without cases, or an enum with its own.
+    Type(Vec<String>),
     Import(String),
     /// A function's body, or a constant's value.
     Code(Vec<Tree>),
@@ -159,6 +160,15 @@ fn count(trees: &[Tree], words: &[&str]) -> usize {
     trees.iter().map(in_tree).sum()
 }
 
+/// The cases of a type: the first word of each, where it is an enum.
+fn cases(item: &[Tree]) -> Vec<String> {
+    let Some(Group(_, inner)) = item.last().filter(|_| is(item, 0, "enum")) else {
+        return Vec::new();
+    };
+    let parts = inner.split(|tree| *tree == Leaf(",".to_string()));
+    parts.filter(|part| !part.is_empty()).map(|part| word(part, 0).to_string()).collect()
+}
+
 /// The module of a file, as `rounding::signed` of `rounding/src/signed.rt`.
 fn module_of(file: &str) -> String {
     let (name, rest) = file.split_once("/src/").expect("a file of a crate");
@@ -216,6 +226,8 @@ impl Sources {
                 "pub" => (i + usize::from(is_group(trees, i + 1, "(")), None),
                 "extern" => (i, None),
                 "mod" => (i + 2, None),
+                // A method is no name that can be followed: one that is called is unknown.
+                "impl" => (position(trees, i, braces), None),
                 "use" => {
                     let end = position(trees, i, semicolon);
                     self.import(module, "", &trees[i + 1..end]);
@@ -231,7 +243,7 @@ impl Sources {
                 }
                 "struct" | "enum" | "type" => {
                     let end = position(trees, i, |t, i| semicolon(t, i) || braces(t, i));
-                    (end, Some(Item::Type))
+                    (end, Some(Item::Type(cases(&trees[i..=end]))))
                 }
                 other => panic!("an unknown form in {module}: {other}"),
             };
@@ -284,9 +296,9 @@ impl Sources {
             _ => return None,
         };
         for segment in rest.split("::").filter(|segment| !segment.is_empty()) {
-            // A case of an enum.
-            if self.items.get(&at) == Some(&Item::Type) {
-                return Some(at);
+            if let Some(Item::Type(cases)) = self.items.get(&at) {
+                // A case, or a function of the type, whose body is not known here.
+                return Some(at).filter(|_| cases.iter().any(|case| case == segment));
             }
             at = self.followed(format!("{at}::{segment}"))?;
         }
@@ -455,6 +467,7 @@ mod tests {
              ensures {{ λ r. ⌜ r ≡ a / b ⌝ }}\n{{\n    {body}\n}}\n"
         );
         let low = "pub enum Kind { One, Two(u64) }\npub struct Pair { pub a: u64 }\n\
+                   impl Pair { pub fn halved(self) -> u64 { self.a / 2 } }\n\
                    pub fn halved(a: u64) -> u64 { a / 2 }\n\
                    #[no_mangle]\npub extern \"C\" fn none<'a>(a: &'a [u8]) -> u8 { b'/' }\n";
         let side =
@@ -524,12 +537,23 @@ mod tests {
 
     #[test]
     fn an_unknown_name_is_no_guess() {
-        for body in
-            ["a.div_euclid(b)", "bytes::copy(a)", "quotient(a, b)", "low::third(a)", "div!(a, b)"]
-        {
+        for body in [
+            "a.div_euclid(b)",
+            "a.halved()",
+            "low::Pair::halved(a)",
+            "Sort::Three(a)",
+            "u64::MAX",
+            "bytes::copy(a)",
+            "quotient(a, b)",
+            "low::third(a)",
+            "div!(a, b)",
+            "use low::halved as g; g(a)",
+        ] {
             assert!(holding(body).is_err(), "{body}");
         }
-        for body in ["a.len", "Sort::Two(a)", "Pair { a }", "none[a]"] {
+        for body in
+            ["a.len", "Sort::Two(a)", "low::Kind::One", "low::Pair { a }", "Pair { a }", "none[a]"]
+        {
             assert_eq!(counts(body), (0, 0, 0, Some(0)), "{body}");
         }
     }

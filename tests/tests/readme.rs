@@ -453,9 +453,10 @@ fn sessions_and_versions_of_the_gate() {
     assert_says(&format!("`cargo` (Rust {} or later)", env!("CARGO_PKG_RUST_VERSION")));
 }
 
-/// A row of a table of docs/SPEED.md: the proved rate and the ratio.
+/// A row of the first tables of docs/SPEED.md: the proved rate and the ratio.
 fn rates(name: &str) -> Vec<(f64, f64)> {
-    let rows = SPEED.lines().filter_map(|line| line.strip_prefix(&format!("| {name} | ")));
+    let (first, _) = SPEED.split_once("\n## ").expect("a first part");
+    let rows = first.lines().filter_map(|line| line.strip_prefix(&format!("| {name} | ")));
     let figure = |cell: &str| cell.replace(',', "").parse::<f64>().expect("a figure");
     let cells = rows.map(|row| row.split(" | ").collect::<Vec<&str>>());
     cells.map(|cells| (figure(cells[1]), figure(cells[3]))).collect()

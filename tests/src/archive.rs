@@ -1,7 +1,7 @@
 //! Archives of the proved library, two of them in one process if need be: each is made a
 //! shared object, and its functions are found there by name.
 
-use std::ffi::CString;
+use std::ffi::{CStr, CString};
 use std::os::raw::{c_char, c_int, c_void};
 use std::path::Path;
 use std::process::{self, Command};
@@ -28,6 +28,7 @@ pub fn over_lent(function: OverLent, file: &[u8], output: &mut [u8]) -> Outcome 
 extern "C" {
     fn dlopen(file: *const c_char, mode: c_int) -> *mut c_void;
     fn dlsym(object: *mut c_void, name: *const c_char) -> *mut c_void;
+    fn dlerror() -> *const c_char;
 }
 /// All names of the object are looked up at once, as a linked program has them.
 const RTLD_NOW: c_int = 2;
@@ -53,7 +54,10 @@ impl Loaded {
         let path = CString::new(path).expect("a name without a zero");
         let object = unsafe { dlopen(path.as_ptr(), RTLD_NOW) };
         fs::remove_file(&made).expect("the object, loaded and no longer needed");
-        assert!(!object.is_null(), "{} is not loaded", archive.display());
+        if object.is_null() {
+            let why = unsafe { CStr::from_ptr(dlerror()) };
+            panic!("{} is not loaded: {}", archive.display(), why.to_string_lossy());
+        }
         Self(object)
     }
 

@@ -23,6 +23,9 @@ pub struct Count {
 /// Each function by its name, without what valgrind adds to a recursive one's.
 pub type Counts = BTreeMap<String, Count>;
 
+/// What objdump adds to an instruction's name.
+const SIZES: [&str; 5] = ["", "b", "w", "l", "q"];
+
 /// What a command prints.
 fn printed(command: &mut Command) -> String {
     let program = command.get_program().to_owned();
@@ -45,13 +48,15 @@ fn names(program: &Path) -> BTreeMap<u64, String> {
 impl Count {
     /// Puts down that an instruction ran so often.
     fn add(&mut self, name: &str, times: u64) {
+        // The size of an operand may be added: `divq`.
+        let is = |stem| name.strip_prefix(stem).is_some_and(|size| SIZES.contains(&size));
         self.instructions += times;
-        match name {
-            "div" | "idiv" => self.divisions += times,
-            "mul" | "imul" => self.multiplications += times,
-            "push" | "pop" => self.moves += times,
-            _ if name.starts_with("mov") => self.moves += times,
-            _ => {}
+        if is("div") || is("idiv") {
+            self.divisions += times;
+        } else if is("mul") || is("imul") {
+            self.multiplications += times;
+        } else if is("push") || is("pop") || name.starts_with("mov") {
+            self.moves += times;
         }
     }
 }
@@ -136,7 +141,8 @@ mod tests {
 
     #[test]
     fn what_callgrind_writes_is_read() {
-        let names = [(0x10, "mov"), (0x12, "div"), (0x14, "imul"), (0x16, "push"), (0x18, "call")];
+        let names =
+            [(0x10, "movq"), (0x12, "divq"), (0x14, "imul"), (0x16, "push"), (0x18, "call")];
         let names = names.map(|(address, name)| (address, name.to_string())).into();
         let written =
             "events: Ir\nfn=outer\n0x10 0 5\n0x18 0 5\ncfn=inner\ncalls=5 0x12 0\n0x18 0 40\n\

@@ -1,29 +1,32 @@
 //! The proved crates' sources, read as text: what a function and all that it calls hold,
-//! comments and contracts left out. It knows the forms that the crates use, and where a
-//! name is called whose source it does not have it says so: it never guesses.
+//! comments and contracts left out. A form that the reader does not know, or a name that is
+//! called and whose source it does not have, is an error: a guess could hide code.
+
+mod tree;
 
 use std::collections::{BTreeMap, BTreeSet};
 use std::fs;
 use std::path::Path;
 
-#[derive(Clone, Debug, PartialEq)]
-enum Tree {
-    /// A word or a sign.
-    Leaf(String),
-    /// The opening bracket, and what stands in it.
-    Group(String, Vec<Tree>),
-}
-use Tree::{Group, Leaf};
+use tree::Tree::{Group, Leaf};
+use tree::{count, is, is_group, is_name, parts, position, trees, word, Tree};
 
-/// What a crate's module declares, each by its whole path, as `rounding::near`.
+/// A function's body or a constant's value, and the module whose names it uses.
+#[derive(Clone, Debug, PartialEq)]
+struct Code {
+    module: String,
+    trees: Vec<Tree>,
+}
+
+/// What a crate declares, each by its whole path, as `rounding::near`.
 #[derive(Clone, Debug, PartialEq)]
 enum Item {
     Module,
     /// A struct without cases, or an enum with its own.
     Type(Vec<String>),
     Import(String),
-    /// A function's body, or a constant's value.
-    Code(Vec<Tree>),
+    Constant(Code),
+    Function(Code),
 }
 
 /// The items of every crate.
@@ -55,124 +58,11 @@ const WORDS: [&str; 17] = [
 const LOOPS: [&str; 3] = ["for", "loop", "while"];
 const DIVISIONS: [&str; 2] = ["/", "%"];
 
-/// The text after the bracket that closes the one it begins with.
-fn after_braces(text: &str) -> &str {
-    let mut depth = 0;
-    for (i, c) in text.char_indices() {
-        match c {
-            '{' => depth += 1,
-            '}' if depth == 1 => return &text[i + 1..],
-            '}' => depth -= 1,
-            _ => {}
-        }
-    }
-    panic!("a clause without an end")
-}
-
-/// The text after a literal in quotes, if it begins with one: `"..."`, `'x'`, `'\n'`.
-fn after_literal(text: &str) -> Option<&str> {
-    let quote = text.chars().next().filter(|c| *c == '"' || *c == '\'')?;
-    let mut escaped = false;
-    for (i, c) in text.char_indices().skip(1) {
-        match c {
-            _ if escaped => escaped = false,
-            '\\' => escaped = true,
-            _ if c == quote => return Some(&text[i + 1..]),
-            // A lifetime has no second quote.
-            _ if quote == '\'' && i > 1 => return None,
-            _ => {}
-        }
-    }
-    None
-}
-
-/// The words and signs of a source, without its comments, contracts and literals in quotes.
-fn words(mut text: &str) -> Vec<String> {
-    let mut words = Vec::new();
-    while let Some(c) = text.chars().next() {
-        let word: String = text.chars().take_while(|c| c.is_alphanumeric() || *c == '_').collect();
-        if text.starts_with("//") {
-            text = text.split_once('\n').map_or("", |(_, rest)| rest);
-        } else if text.starts_with("/*") {
-            text = text.split_once("*/").expect("a comment ends").1;
-        } else if word == "requires" || word == "ensures" {
-            text = after_braces(&text[word.len()..]);
-        } else if word == "ghost" {
-            assert!(text.starts_with("ghost use "), "an unknown form: {}", &text[..40]);
-            text = text.split_once(';').expect("an item ends").1;
-        } else if !word.is_empty() {
-            text = &text[word.len()..];
-            words.push(word);
-        } else if let Some(rest) = after_literal(text) {
-            text = rest;
-        } else {
-            let sign = ["::", "=>", "->"].into_iter().find(|sign| text.starts_with(sign));
-            let sign = sign.unwrap_or(&text[..c.len_utf8()]);
-            text = &text[sign.len()..];
-            words.extend(Some(sign.to_string()).filter(|_| !c.is_whitespace()));
-        }
-    }
-    words
-}
-
-/// Words and signs in the brackets that they stand in, up to the one that closes.
-fn trees(words: &mut impl Iterator<Item = String>) -> Vec<Tree> {
-    let mut trees = Vec::new();
-    while let Some(word) = words.next() {
-        match word.as_str() {
-            "(" | "[" | "{" => {
-                let inner = self::trees(words);
-                trees.push(Group(word, inner));
-            }
-            ")" | "]" | "}" => break,
-            _ => trees.push(Leaf(word)),
-        }
-    }
-    trees
-}
-
-fn is(trees: &[Tree], i: usize, word: &str) -> bool {
-    trees.get(i).is_some_and(|tree| matches!(tree, Leaf(leaf) if leaf == word))
-}
-
-fn is_group(trees: &[Tree], i: usize, bracket: &str) -> bool {
-    trees.get(i).is_some_and(|tree| matches!(tree, Group(open, _) if open == bracket))
-}
-
-/// Where the first such place from one on is.
-fn position(trees: &[Tree], from: usize, at: impl Fn(&[Tree], usize) -> bool) -> usize {
-    (from..trees.len()).find(|i| at(trees, *i)).expect("an item that ends")
-}
-
-fn word(trees: &[Tree], i: usize) -> &str {
-    match trees.get(i) {
-        Some(Leaf(word)) => word,
-        other => panic!("a name is wanted and not {other:?}"),
-    }
-}
-
-/// How many leaves are among these words, groups included.
-fn count(trees: &[Tree], words: &[&str]) -> usize {
-    let in_tree = |tree: &Tree| match tree {
-        Leaf(leaf) => usize::from(words.contains(&leaf.as_str())),
-        Group(_, inner) => count(inner, words),
-    };
-    trees.iter().map(in_tree).sum()
-}
-
-/// The cases of a type: the first word of each, where it is an enum.
-fn cases(item: &[Tree]) -> Vec<String> {
-    let Some(Group(_, inner)) = item.last().filter(|_| is(item, 0, "enum")) else {
-        return Vec::new();
-    };
-    let parts = inner.split(|tree| *tree == Leaf(",".to_string()));
-    parts.filter(|part| !part.is_empty()).map(|part| word(part, 0).to_string()).collect()
-}
-
 /// The module of a file, as `rounding::signed` of `rounding/src/signed.rt`.
 fn module_of(file: &str) -> String {
     let (name, rest) = file.split_once("/src/").expect("a file of a crate");
-    match rest.strip_suffix(".rt").expect("a file of Rattle") {
+    let rest = rest.strip_suffix(".rt").expect("a file of Rattle");
+    match rest.strip_suffix("/mod").unwrap_or(rest) {
         "lib" | "main" => name.to_string(),
         inner => format!("{name}::{}", inner.replace('/', "::")),
     }
@@ -204,53 +94,81 @@ pub fn files(crates: &Path) -> Files {
     files
 }
 
+/// A declared type. Lengths of arrays in it, and numbers of cases, are no places to compute.
+fn declared_type(item: &[Tree]) -> Item {
+    assert_eq!(count(item, &DIVISIONS), 0, "a type that divides: {item:?}");
+    match item.last() {
+        Some(Group(_, inner)) if is(item, 0, "enum") => {
+            Item::Type(parts(inner).map(|part| word(part, 0).to_string()).collect())
+        }
+        _ => Item::Type(Vec::new()),
+    }
+}
+
 impl Sources {
     pub fn of(files: &Files) -> Self {
         let mut sources = Self { items: BTreeMap::new() };
         for (file, text) in files {
             let module = module_of(file);
-            sources.items.insert(module.clone(), Item::Module);
-            sources.declare(&module, &trees(&mut words(text).into_iter()));
+            sources.put(module.clone(), Item::Module);
+            sources.declare(&module, &module, &trees(text));
         }
         sources
     }
 
-    /// Puts down each item of a module.
-    fn declare(&mut self, module: &str, trees: &[Tree]) {
+    fn put(&mut self, path: String, item: Item) {
+        let before = self.items.insert(path.clone(), item);
+        assert!(before.is_none(), "{path} is declared twice, so a name could mean either");
+    }
+
+    /// Puts down each item of a module, or of a type's functions there, under a path.
+    fn declare(&mut self, module: &str, path: &str, trees: &[Tree]) {
         let mut i = 0;
         while i < trees.len() {
-            let semicolon = |trees: &[Tree], i: usize| is(trees, i, ";");
-            let braces = |trees: &[Tree], i: usize| is_group(trees, i, "{");
+            let code = |trees: &[Tree]| Code { module: module.to_string(), trees: trees.to_vec() };
             let (end, item) = match word(trees, i) {
                 "#" => (i + 1, None),
                 "pub" => (i + usize::from(is_group(trees, i + 1, "(")), None),
                 "extern" => (i, None),
-                "mod" => (i + 2, None),
-                // A method is no name that can be followed: one that is called is unknown.
-                "impl" => (position(trees, i, braces), None),
-                "use" => {
-                    let end = position(trees, i, semicolon);
-                    self.import(module, "", &trees[i + 1..end]);
-                    (end, None)
+                "const" if is(trees, i + 1, "fn") => (i, None),
+                "const" => {
+                    let end = position(trees, i, |t, i| is(t, i, ";"));
+                    (end, Some(Item::Constant(code(&trees[i + 2..end]))))
                 }
                 "fn" => {
-                    let end = position(trees, i, braces);
-                    (end, Some(Item::Code(vec![trees[end].clone()])))
-                }
-                "const" => {
-                    let end = position(trees, i, semicolon);
-                    (end, Some(Item::Code(trees[i + 2..end].to_vec())))
+                    let end = position(trees, i, |t, i| is_group(t, i, "{"));
+                    assert_eq!(count(&trees[i..end], &DIVISIONS), 0, "a type that divides");
+                    (end, Some(Item::Function(code(&trees[end..=end]))))
                 }
                 "struct" | "enum" | "type" => {
-                    let end = position(trees, i, |t, i| semicolon(t, i) || braces(t, i));
-                    (end, Some(Item::Type(cases(&trees[i..=end]))))
+                    let end = position(trees, i, |t, i| is(t, i, ";") || is_group(t, i, "{"));
+                    (end, Some(declared_type(&trees[i..=end])))
                 }
-                other => panic!("an unknown form in {module}: {other}"),
+                _ => (self.declare_other(module, trees, i), None),
             };
             if let Some(item) = item {
-                self.items.insert(format!("{module}::{}", word(trees, i + 1)), item);
+                self.put(format!("{path}::{}", word(trees, i + 1)), item);
             }
             i = end + 1;
+        }
+    }
+
+    /// The same of an item that has no code of its own; where it ends.
+    fn declare_other(&mut self, module: &str, trees: &[Tree], i: usize) -> usize {
+        let end = position(trees, i, |t, i| is(t, i, ";") || is_group(t, i, "{"));
+        match (word(trees, i), &trees[end]) {
+            // A file of its own declares the module.
+            ("mod", Leaf(_)) => end,
+            ("impl", Group(_, inner)) if end == i + 2 => {
+                self.declare(module, &format!("{module}::{}", word(trees, i + 1)), inner);
+                end
+            }
+            ("use", _) => {
+                let end = position(trees, i, |t, i| is(t, i, ";"));
+                self.import(module, "", &trees[i + 1..end]);
+                end
+            }
+            (other, _) => panic!("a form in {module} that is not known: {other}"),
         }
     }
 
@@ -261,25 +179,20 @@ impl Sources {
         for (i, tree) in trees.iter().enumerate() {
             match tree {
                 Group(_, inner) => {
-                    for part in inner.split(|tree| *tree == Leaf(",".to_string())) {
-                        self.import(module, &path, part);
-                    }
-                    return;
+                    return parts(inner).for_each(|part| self.import(module, &path, part));
                 }
                 Leaf(leaf) if leaf == "as" => {
                     name = word(trees, i + 1);
                     break;
                 }
                 Leaf(leaf) => {
-                    assert_ne!(leaf, "*", "an unknown form: every name of {path}");
+                    assert_ne!(leaf, "*", "a form in {module} that is not known: {path}*");
                     path.push_str(leaf);
                     name = leaf;
                 }
             }
         }
-        if !name.is_empty() {
-            self.items.insert(format!("{module}::{name}"), Item::Import(path));
-        }
+        self.put(format!("{module}::{name}"), Item::Import(path));
     }
 
     /// The whole path of what a name stands for in a module.
@@ -296,9 +209,9 @@ impl Sources {
             _ => return None,
         };
         for segment in rest.split("::").filter(|segment| !segment.is_empty()) {
-            if let Some(Item::Type(cases)) = self.items.get(&at) {
-                // A case, or a function of the type, whose body is not known here.
-                return Some(at).filter(|_| cases.iter().any(|case| case == segment));
+            let case = |cases: &Vec<String>| cases.iter().any(|case| case == segment);
+            if matches!(self.items.get(&at), Some(Item::Type(cases)) if case(cases)) {
+                return Some(at);
             }
             at = self.followed(format!("{at}::{segment}"))?;
         }
@@ -313,39 +226,40 @@ impl Sources {
         }
     }
 
-    /// The code that the word at a place stands for, if it stands for any.
+    /// The code that the word at a place stands for: a function that is called, or a constant.
     fn code_at(&self, module: &str, trees: &[Tree], i: usize) -> Result<Option<String>, String> {
-        let Leaf(head) = &trees[i] else { return Ok(None) };
-        let name = head.starts_with(|c: char| c.is_alphabetic() || c == '_');
-        let dots = trees[..i].iter().rev().take_while(|tree| **tree == Leaf(".".to_string()));
-        let dots = dots.count();
-        if !name || WORDS.contains(&head.as_str()) || (i > 0 && is(trees, i - 1, "::")) {
+        let after = |sign| i > 0 && is(trees, i - 1, sign);
+        if !is_name(trees, i) || WORDS.contains(&word(trees, i)) {
             return Ok(None);
         }
-        let (mut path, mut end) = (head.clone(), i + 1);
+        let (mut path, mut end) = (word(trees, i).to_string(), i + 1);
         while is(trees, end, "::") {
             path = format!("{path}::{}", word(trees, end + 1));
             end += 2;
         }
+        // A path is looked up at its head, which is a name.
+        if after("::") {
+            let headed = i > 1 && is_name(trees, i - 2);
+            return if headed { Ok(None) } else { Err(format!("{module}: ::{path}")) };
+        }
         let called = is_group(trees, end, "(");
-        let unknown = || Err(format!("{module}: {path} is not among the sources"));
         let macro_called = is(trees, end, "!") && matches!(trees.get(end + 1), Some(Group(..)));
-        match self.find(module, &path).filter(|_| dots != 1) {
-            _ if macro_called => unknown(),
-            Some(found) => Ok(Some(found).filter(|found| self.is_code(found))),
-            // A local, or the field of one.
-            None if !called && !path.contains("::") => Ok(None),
-            None => unknown(),
+        // After one dot a field or a method, after two the end of a range.
+        let of_value = after(".") && !(i > 1 && is(trees, i - 2, "."));
+        let found = self.find(module, &path).filter(|_| !of_value && !macro_called);
+        match found.as_ref().map(|found| &self.items[found]) {
+            Some(Item::Constant(_)) => Ok(found),
+            Some(Item::Function(_)) if called => Ok(found),
+            Some(Item::Type(_)) => Ok(None),
+            // A local, or a field of one.
+            _ if !called && !macro_called && !path.contains("::") => Ok(None),
+            _ => Err(format!("{module}: {path} is not known from the sources")),
         }
     }
 
-    fn is_code(&self, path: &str) -> bool {
-        matches!(self.items.get(path), Some(Item::Code(_)))
-    }
-
-    fn code(&self, path: &str) -> &[Tree] {
+    fn code(&self, path: &str) -> &Code {
         match self.items.get(path) {
-            Some(Item::Code(trees)) => trees,
+            Some(Item::Constant(code) | Item::Function(code)) => code,
             other => panic!("{path} is no function: {other:?}"),
         }
     }
@@ -367,7 +281,8 @@ impl Sources {
         let mut reached = BTreeSet::new();
         let mut left = vec![path.to_string()];
         while let Some(next) = left.pop() {
-            let calls = self.calls(parent(&next), self.code(&next))?;
+            let Code { module, trees } = self.code(&next);
+            let calls = self.calls(module, trees)?;
             left.extend(calls.into_iter().filter(|call| reached.insert(call.clone())));
         }
         Ok(reached)
@@ -383,28 +298,46 @@ impl Sources {
                 recursive.push(function.clone());
             }
         }
-        let total = |words| code.iter().map(|path| count(self.code(path), words)).sum();
+        let total = |words| code.iter().map(|path| count(&self.code(path).trees, words)).sum();
         let (signs, loops) = (total(&DIVISIONS), total(&LOOPS));
         let ends = loops == 0 && recursive.is_empty();
         let divides = if ends { Some(self.divides(path)?) } else { None };
         Ok(Holding { code: code.into_iter().collect(), signs, loops, recursive, divides })
     }
 
-    /// How often one call divides at most.
-    fn divides(&self, path: &str) -> Result<usize, String> {
-        self.most(parent(path), self.code(path))
+    /// Every function and constant that holds such a sign itself, with their number.
+    pub fn dividing(&self) -> BTreeMap<&str, usize> {
+        let signs = |item: &Item| match item {
+            Item::Constant(code) | Item::Function(code) => count(&code.trees, &DIVISIONS),
+            _ => 0,
+        };
+        let items = self.items.iter().map(|(path, item)| (path.as_str(), signs(item)));
+        items.filter(|(_, signs)| *signs > 0).collect()
     }
 
-    /// How often these trees divide at most, one after the other; of the branches of an
-    /// `if` or a `match` one is taken.
+    /// How often one call divides at most.
+    fn divides(&self, path: &str) -> Result<usize, String> {
+        let Code { module, trees } = self.code(path);
+        self.most(module, trees)
+    }
+
+    /// How often these trees divide at most, one after the other; of the ways that part at an
+    /// `if`, a `match` or a `let .. else` one is gone.
     fn most(&self, module: &str, trees: &[Tree]) -> Result<usize, String> {
         let (mut most, mut i) = (0, 0);
         while i < trees.len() {
             if is(trees, i, "if") || is(trees, i, "match") {
-                let (branches, end) = self.branches(module, trees, i)?;
-                most += branches;
+                let Ways { asked, taken, left, end } = self.ways(module, trees, i)?;
+                let Some(left) = left else {
+                    return Ok(most + asked + taken.max(self.most(module, &trees[end..])?));
+                };
+                most += asked + taken.max(left);
                 i = end;
                 continue;
+            }
+            if is(trees, i, "else") {
+                let taken = self.most(module, after_let(&trees[..i], &trees[i + 1..])?)?;
+                return Ok(most + taken.max(self.most(module, &trees[i + 2..])?));
             }
             most += match &trees[i] {
                 Group(_, inner) => self.most(module, inner)?,
@@ -418,23 +351,31 @@ impl Sources {
         Ok(most)
     }
 
-    /// The same for an `if` or a `match`, and where it ends.
-    fn branches(&self, module: &str, trees: &[Tree], i: usize) -> Result<(usize, usize), String> {
-        let block = position(trees, i, |trees, i| is_group(trees, i, "{"));
+    /// The ways that part at an `if` or a `match`.
+    fn ways(&self, module: &str, trees: &[Tree], i: usize) -> Result<Ways, String> {
+        // A pattern may have braces.
+        let from =
+            if is(trees, i + 1, "let") { position(trees, i, |t, i| is(t, i, "=")) } else { i };
+        let block = position(trees, from, |trees, i| is_group(trees, i, "{"));
         let asked = self.most(module, &trees[i + 1..block])?;
         let Group(_, inner) = &trees[block] else { unreachable!("a block") };
         if is(trees, i, "match") {
-            return Ok((asked + self.arms(module, inner)?, block + 1));
+            let taken = self.arms(module, inner)?;
+            return Ok(Ways { asked, taken, left: Some(0), end: block + 1 });
         }
         let taken = self.most(module, inner)?;
-        let (left, end) = match trees.get(block + 2) {
-            Some(Group(_, inner)) if is(trees, block + 1, "else") => {
-                (self.most(module, inner)?, block + 3)
+        let end = block + 1;
+        Ok(match trees.get(block + 2).filter(|_| is(trees, end, "else")) {
+            Some(Group(_, inner)) => {
+                Ways { asked, taken, left: Some(self.most(module, inner)?), end: end + 2 }
             }
-            Some(_) if is(trees, block + 1, "else") => self.branches(module, trees, block + 2)?,
-            _ => (0, block + 1),
-        };
-        Ok((asked + taken.max(left), end))
+            Some(_) => {
+                let other = self.ways(module, trees, block + 2)?;
+                let left = other.asked + other.taken.max(other.left.unwrap_or(0));
+                Ways { asked, taken, left: Some(left), end: other.end }
+            }
+            None => Ways { asked, taken, left: Some(0).filter(|_| !leaves(inner)), end },
+        })
     }
 
     /// The arm of a `match` that divides most.
@@ -454,6 +395,34 @@ impl Sources {
     }
 }
 
+/// Divisions of what is asked, of the way that is taken then, and of the other one: nothing where
+/// that one is all that follows, since the first returns.
+struct Ways {
+    asked: usize,
+    taken: usize,
+    left: Option<usize>,
+    end: usize,
+}
+
+/// Whether a block returns, whatever comes before its end.
+fn leaves(block: &[Tree]) -> bool {
+    let begins = |i: usize| i == 0 || is(block, i - 1, ";") || is_group(block, i - 1, "{");
+    (0..block.len()).any(|i| is(block, i, "return") && begins(i))
+}
+
+/// The block after an `else` that has no `if`: it belongs to a `let`, and leaves.
+fn after_let<'a>(before: &[Tree], after: &'a [Tree]) -> Result<&'a [Tree], String> {
+    let statement = before.rsplit(|tree| *tree == Leaf(";".to_string())).next();
+    match after.first() {
+        Some(Group(_, inner))
+            if statement.is_some_and(|s| s.contains(&Leaf("let".to_string()))) =>
+        {
+            Ok(inner)
+        }
+        other => Err(format!("an else that is not known: {other:?}")),
+    }
+}
+
 #[cfg(test)]
 mod tests {
     use super::*;
@@ -467,7 +436,7 @@ mod tests {
              ensures {{ λ r. ⌜ r ≡ a / b ⌝ }}\n{{\n    {body}\n}}\n"
         );
         let low = "pub enum Kind { One, Two(u64) }\npub struct Pair { pub a: u64 }\n\
-                   impl Pair { pub fn halved(self) -> u64 { self.a / 2 } }\n\
+                   impl Pair { pub fn half(self) -> u64 { self.a / 2 } }\n\
                    pub fn halved(a: u64) -> u64 { a / 2 }\n\
                    #[no_mangle]\npub extern \"C\" fn none<'a>(a: &'a [u8]) -> u8 { b'/' }\n";
         let side =
@@ -487,10 +456,8 @@ mod tests {
     #[test]
     fn comments_contracts_and_literals_are_left_out() {
         assert_eq!(counts("a + b // a / b"), (0, 0, 0, Some(0)));
-        assert_eq!(
-            counts("let c = b'/'; /* a % b */ let s = b\"a / \\\" b\"; a"),
-            (0, 0, 0, Some(0))
-        );
+        let literals = "let c = b'/'; let d = b'\\''; let s = b\"a / \\\" b\"; a";
+        assert_eq!(counts(literals), (0, 0, 0, Some(0)));
     }
 
     #[test]
@@ -507,23 +474,34 @@ mod tests {
             assert_eq!(counts(call), (1, 0, 0, Some(1)), "{call}");
             assert_eq!(holding(call).unwrap().code, ["low::halved", "up::f"]);
         }
+        assert_eq!(holding("low::Pair::half(a)").unwrap().code, ["low::Pair::half", "up::f"]);
         // One sign, and it divides twice.
         assert_eq!(counts("twice(a)"), (1, 0, 0, Some(2)));
         assert_eq!(counts("side::twice(halved(a)) / b"), (2, 0, 0, Some(4)));
         assert_eq!(counts("a + TENTH"), (1, 0, 0, Some(1)));
+        // A local of a function's name is no call.
+        assert_eq!(counts("let halved = halved(a); halved + halved"), (1, 0, 0, Some(1)));
     }
 
     #[test]
-    fn one_branch_is_taken() {
-        assert_eq!(counts("if a < b { a / b } else { b / a }"), (2, 0, 0, Some(1)));
-        assert_eq!(
-            counts("if a % 2 < b { a / b } else if a < 7 { b } else { b / a }"),
-            (3, 0, 0, Some(2))
-        );
-        assert_eq!(counts("if a < b { return a / b; } b / a"), (2, 0, 0, Some(2)));
-        let arms =
-            "match k { Sort::One => a / b, Sort::Two(c) => { c / a / b } low::Kind::One => 0 }";
-        assert_eq!(counts(arms), (3, 0, 0, Some(2)));
+    fn one_way_is_gone() {
+        for (body, signs, divides) in [
+            ("if a < b { a / b } else { b / a }", 2, 1),
+            ("if a % 2 < b { a / b } else if a < 7 { b } else { b / a }", 3, 2),
+            ("if a < b { return a / b; } b / a", 2, 1),
+            ("if a < b { if b < 7 { return a; } a / b; } b / a", 2, 2),
+            ("let x = if a < b { a / b } else { b }; x / 2", 2, 2),
+            ("let Sort::Two(c) = k else { return a / b; }; c / a", 2, 1),
+            ("let Sort::Two(c) = halved(a / b) else { return a / b; }; c / a", 4, 3),
+            ("if let low::Pair { a } = p { a / b } else { b } + b / a", 2, 2),
+            (
+                "match k { Sort::One => a / b, Sort::Two(c) => { c / a / b } low::Kind::One => 0 }",
+                3,
+                2,
+            ),
+        ] {
+            assert_eq!(counts(body), (signs, 0, 0, Some(divides)), "{body}");
+        }
     }
 
     #[test]
@@ -539,22 +517,51 @@ mod tests {
     fn an_unknown_name_is_no_guess() {
         for body in [
             "a.div_euclid(b)",
-            "a.halved()",
-            "low::Pair::halved(a)",
+            "a.half()",
             "Sort::Three(a)",
             "u64::MAX",
             "bytes::copy(a)",
+            "::bytes::copy(a)",
+            "<low::Pair>::half(a)",
             "quotient(a, b)",
             "low::third(a)",
             "div!(a, b)",
             "use low::halved as g; g(a)",
+            "if a < b { a } b else { a }",
         ] {
             assert!(holding(body).is_err(), "{body}");
         }
-        for body in
-            ["a.len", "Sort::Two(a)", "low::Kind::One", "low::Pair { a }", "Pair { a }", "none[a]"]
-        {
+        for body in ["a.len", "Sort::Two(a)", "low::Kind::One", "low::Pair { a }", "none[a]"] {
             assert_eq!(counts(body), (0, 0, 0, Some(0)), "{body}");
         }
+    }
+
+    /// Forms in which code could hide, or a name mean something else.
+    #[test]
+    fn an_unknown_form_is_no_guess() {
+        let ends = "}\nfn decoy(a: u64) -> u64 {\n";
+        for body in [
+            "let z = /* a /* b */ \" */ b % 7; // \"",
+            "let s = br\"\\\"; let z = a % 7; let y = br\"\\\";",
+            "let s = r#\"a\"#; a",
+            "a ) / b",
+            "a } / b",
+            "let s = \"a / b;",
+            &format!("a {ends} a }} fn decoy(a: u64) -> u64 {{ a"),
+            &format!("a {ends} a }} type decoy = u64; fn other() -> u64 {{ 0"),
+            &format!("a {ends} a }} use crate::side as decoy; fn other() -> u64 {{ 0"),
+            &format!("a {ends} a }} mod low {{ fn halved(a: u64) -> u64 {{ a % 2 }}"),
+            &format!("a {ends} a }} use low::*; fn other() -> u64 {{ 0"),
+            &format!("a {ends} a }} type T = [u64; 6 / 3]; fn other() -> u64 {{ 0"),
+            &format!("a {ends} a }} fn other(c: [u64; 6 / 3]) -> u64 {{ 0"),
+            &format!("a {ends} a }} fn other() -> u64 ensures {{ a -- }} {{\n }} {{ 0"),
+            &format!("a {ends} a }} fn other() -> u64 ensures {{ \"}}\" }} {{ 0"),
+            &format!("a {ends} a }} ghost use lib.X.{{a -- ; fn g() {{\n }}; fn other() {{ 0"),
+            &format!("a {ends} a }} ghost fn other() -> u64 {{ 0"),
+        ] {
+            assert!(std::panic::catch_unwind(|| holding(body)).is_err(), "{body}");
+        }
+        let plain = format!("a {ends} a }} fn other() -> u64 ghost {{ ℕ }} {{ 0");
+        assert_eq!(counts(&plain), (0, 0, 0, Some(0)));
     }
 }

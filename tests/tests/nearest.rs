@@ -121,3 +121,32 @@ fn the_trial_has_two_signs_and_is_proved() {
     assert_eq!((near.signs, near.loops, near.divides), (2, 0, Some(2)));
     trial::prove(&tree, "near_alone");
 }
+
+/// Every place in the crates that divides, with its signs. None of them but `quotient` rounds: they
+/// test e by P / 10, halve the stretch of a search, and take numbers, records and digits apart.
+/// A new one is to be looked at, and put here.
+#[test]
+fn nothing_else_rounds() {
+    let places = [
+        ("curve::limits::air_within", 1),
+        ("fields::high_word", 1),
+        ("fields::low", 1),
+        ("fields::low_word", 1),
+        ("fields::u32_bytes", 3),
+        ("layout::records::event_at", 1),
+        ("layout::records::put_event", 1),
+        ("packing::put_records", 1),
+        ("packing::write_records", 2),
+        ("reference::search", 1),
+        ("rounding::quotient", 1),
+        ("sheets::find_sheet", 1),
+        ("text::digits", 1),
+        ("text::put_decimal", 2),
+        ("validation::all_right", 1),
+        ("validation::is_packed", 2),
+    ];
+    assert_eq!(Sources::of(&crates()).dividing(), places.into());
+    let own = "    let q = m / b; q + m % b";
+    let dry = changed("curve/src/steps.rt", "    near_scaled(c, a.p, a.p - a.e)", own);
+    assert_eq!(Sources::of(&dry).dividing()["curve::steps::dry"], 2);
+}

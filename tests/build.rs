@@ -21,7 +21,9 @@ fn link() {
     let archive = folder.join("libhost.a");
     println!("cargo:rerun-if-changed={}", archive.display());
     let Ok(archive) = archive.canonicalize() else {
-        eprintln!("the feature `library` needs {}, and it is not there:", archive.display());
+        let from = env::current_dir().unwrap_or_default();
+        let wanted = from.join(archive);
+        eprintln!("the feature `library` needs {}, and it is not there:", wanted.display());
         eprintln!("make it by `rt staticlib host`, or name its folder in IRGA_LIBRARY");
         process::exit(1);
     };

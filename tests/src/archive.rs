@@ -49,7 +49,8 @@ impl Loaded {
             .args(["-Wl,--no-whole-archive", "-o"])
             .arg(&made)
             .status();
-        assert!(linked.is_ok_and(|status| status.success()), "cc makes no shared object");
+        let linked = linked.unwrap_or_else(|error| panic!("cc does not start: {error}"));
+        assert!(linked.success(), "cc makes no shared object of {}", archive.display());
         let path = made.canonicalize().expect("the object just made").display().to_string();
         let path = CString::new(path).expect("a name without a zero");
         let object = unsafe { dlopen(path.as_ptr(), RTLD_NOW) };

@@ -28,9 +28,11 @@ const SIZES: [&str; 5] = ["", "b", "w", "l", "q"];
 
 /// What a command prints.
 fn printed(command: &mut Command) -> String {
-    let program = command.get_program().to_owned();
-    let ran = command.output().unwrap_or_else(|error| panic!("{program:?}: {error}"));
-    assert!(ran.status.success(), "{program:?}: {}", String::from_utf8_lossy(&ran.stderr));
+    let program = command.get_program().to_string_lossy().into_owned();
+    let ran = command.output().unwrap_or_else(|error| {
+        panic!("{program} does not start: {error} (packages valgrind and binutils)")
+    });
+    assert!(ran.status.success(), "{program}: {}", String::from_utf8_lossy(&ran.stderr));
     String::from_utf8(ran.stdout).expect("text")
 }
 

@@ -5,6 +5,7 @@
 
 use std::hint::black_box;
 use std::path::{Path, PathBuf};
+use std::process::ExitCode;
 
 use irga_tests::archive::Loaded;
 use irga_tests::file::{Outcome, EVENTS_LIMIT, RECORD_BYTES};
@@ -61,19 +62,44 @@ fn sample_rows(folders: [&Path; 2], output: &mut [u8]) {
     }
 }
 
-fn main() {
-    let mut output = vec![0; RECORD_BYTES * EVENTS_LIMIT];
-    let here = trial::archive(&trial::root(), "host");
-    if let Some(folder) = std::env::args().nth(1).map(PathBuf::from) {
-        println!("{}", pace::head("this", "other"));
-        sample_rows([&here, &folder], &mut output);
-        return;
-    }
-    eprintln!("proving the trial takes some minutes");
+/// The archive of this tree.
+fn here() -> PathBuf {
+    eprintln!("proving this tree's library, up to three minutes if it was not proved before");
+    trial::archive(&trial::root(), "host")
+}
+
+fn beside_archive(folder: &Path, output: &mut [u8]) {
+    let here = here();
+    println!("{}", pace::head("this", "other"));
+    sample_rows([&here, folder], output);
+}
+
+fn beside_two_signs(output: &mut [u8]) {
+    let here = here();
+    eprintln!("proving the trial, some three minutes");
     let (one, two) = (trial::tree("one_sign"), trial::two_signs("two_signs"));
     let near = [&one, &two].map(|tree| trial::archive(tree, "near_alone"));
     let other = trial::archive(&two, "host");
     println!("{}", pace::head("one sign", "two signs"));
-    near_rows([&near[0], &near[1]], &mut output);
-    sample_rows([&here, &other], &mut output);
+    near_rows([&near[0], &near[1]], output);
+    sample_rows([&here, &other], output);
+}
+
+fn main() -> ExitCode {
+    let mut output = vec![0; RECORD_BYTES * EVENTS_LIMIT];
+    let words: Vec<String> = std::env::args().skip(1).collect();
+    match words.as_slice() {
+        [] => beside_two_signs(&mut output),
+        [folder] if Path::new(folder).join("libhost.a").exists() => {
+            beside_archive(Path::new(folder), &mut output);
+        }
+        _ => {
+            eprintln!(
+                "beside: give no word, or a folder with a libhost.a, which `rt staticlib host`"
+            );
+            eprintln!("writes to target/staticlib of its tree; not {}", words.join(" "));
+            return ExitCode::FAILURE;
+        }
+    }
+    ExitCode::SUCCESS
 }

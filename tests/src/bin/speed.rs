@@ -40,19 +40,20 @@ fn instructions(cases: &[Case]) {
 fn main() -> ExitCode {
     let mut output = vec![0; RECORD_BYTES * EVENTS_LIMIT];
     let cases = pace::cases();
-    let word = std::env::args().nth(1);
-    let number = word.as_ref().and_then(|word| word.parse::<usize>().ok());
-    match (word.as_deref(), number.and_then(|number| cases.get(number.wrapping_sub(1)))) {
-        (None, _) => {
+    let words: Vec<String> = std::env::args().skip(1).collect();
+    let word = words.join(" ");
+    let number = word.parse::<usize>().unwrap_or(0);
+    match (word.as_str(), cases.get(number.wrapping_sub(1))) {
+        ("", _) => {
             println!("{}", pace::head("proved", "independent"));
             for case in &cases {
                 assert_same_bytes(case, &mut output);
                 println!("{}", row(case, &mut output));
             }
         }
-        (Some("instructions"), _) => instructions(&cases),
+        ("instructions", _) => instructions(&cases),
         (_, Some(case)) => _ = library::run(&case.file, &mut output),
-        (Some(word), None) => {
+        (word, None) => {
             eprintln!(
                 "speed: {word} is neither `instructions` nor a case from 1 to {}",
                 cases.len()

@@ -48,7 +48,10 @@ impl Executable {
     /// one there is nothing to compare with, and a test that asks for it fails.
     pub fn under_test() -> Executable {
         let named = std::env::var_os("IRGA_PROGRAM");
-        Executable::named(named).unwrap_or_else(|why| panic!("{why}"))
+        let program = Executable::named(named).unwrap_or_else(|why| panic!("{why}"));
+        let path = program.path.display();
+        assert!(program.path.exists(), "IRGA_PROGRAM names {path}, and nothing is there");
+        program
     }
 
     /// Another program of the repository: it stands beside the one under test.

@@ -9,8 +9,9 @@
 //! over many of them. `bench` holds the
 //! readings and the maker's table that the papers give, and `worst` looks for the
 //! readings with the largest errors. `drift` sets the old program's area beside ours,
-//! and `figures` writes numbers for tables. With the feature of its name, `library` is
-//! the proved library.
+//! and `figures` writes numbers for tables. `sources` reads the proved crates' own code,
+//! and `pace`, `instructions`, `archive` and `trial` measure how fast it runs. With the
+//! feature of its name, `library` is the proved library.
 
 #![deny(unsafe_code)]
 

@@ -269,7 +269,11 @@ impl Sources {
         let mut calls = BTreeSet::new();
         for (i, tree) in trees.iter().enumerate() {
             calls.extend(self.code_at(module, trees, i)?);
-            if let Group(_, inner) = tree {
+            if let Group(open, inner) = tree {
+                // After a block an expression in brackets may begin.
+                if open != "{" && is_group(trees, i + 1, "(") {
+                    return Err(format!("{module}: what is called stands in brackets: {tree:?}"));
+                }
                 calls.append(&mut self.calls(module, inner)?);
             }
         }
@@ -410,15 +414,18 @@ fn leaves(block: &[Tree]) -> bool {
     (0..block.len()).any(|i| is(block, i, "return") && begins(i))
 }
 
-/// The block after an `else` that has no `if`: it belongs to a `let`, and leaves.
+/// The block after an `else` that no `if` has taken: it belongs to a `let`, whose value has no
+/// block, and leaves.
 fn after_let<'a>(before: &[Tree], after: &'a [Tree]) -> Result<&'a [Tree], String> {
-    let statement = before.rsplit(|tree| *tree == Leaf(";".to_string())).next();
+    let from = (0..before.len()).rfind(|i| is(before, *i, "let"));
+    let value = from.and_then(|from| (from..before.len()).find(|i| is(before, *i, "=")));
+    let plain = |from: usize| {
+        let value = &before[from..];
+        let block = (0..value.len()).any(|i| is_group(value, i, "{"));
+        !block && [";", "if", "match"].iter().all(|word| !value.contains(&Leaf(word.to_string())))
+    };
     match after.first() {
-        Some(Group(_, inner))
-            if statement.is_some_and(|s| s.contains(&Leaf("let".to_string()))) =>
-        {
-            Ok(inner)
-        }
+        Some(Group(_, inner)) if value.is_some_and(plain) => Ok(inner),
         other => Err(format!("an else that is not known: {other:?}")),
     }
 }
@@ -458,6 +465,7 @@ mod tests {
         assert_eq!(counts("a + b // a / b"), (0, 0, 0, Some(0)));
         let literals = "let c = b'/'; let d = b'\\''; let s = b\"a / \\\" b\"; a";
         assert_eq!(counts(literals), (0, 0, 0, Some(0)));
+        assert_eq!(counts("b'\\x41'%'a: loop { break 'a 7; }"), (1, 1, 0, None));
     }
 
     #[test]
@@ -528,6 +536,13 @@ mod tests {
             "div!(a, b)",
             "use low::halved as g; g(a)",
             "if a < b { a } b else { a }",
+            "(halved)(a)",
+            "((halved))\n(a)",
+            "let z = if { 5 < b } { 1 } else { halved(b) }; halved(a)",
+            "let z = if 5 < { b } { 1 } else { halved(b) }; halved(a)",
+            "let z = if b == { a } + 1 { 1 } else { halved(b) }; halved(a)",
+            "let y = 1; if b == { a } + 1 { 1 } else { halved(b) } halved(a)",
+            "let mut z = 0; if let 5 = { b } { z = 1; } else { z = halved(b); } halved(a)",
         ] {
             assert!(holding(body).is_err(), "{body}");
         }

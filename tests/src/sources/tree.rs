@@ -46,9 +46,10 @@ fn after_ghost(text: &str) -> &str {
     after_plain(text, text.find(';').expect("an item that ends") + 1)
 }
 
-/// The text after a literal in quotes, if it begins with one: `"..."`, `'x'`, `'\n'`.
+/// The text after a literal in quotes, if it begins with one: `"..."`, `'x'`, `'\x41'`.
 fn after_literal(text: &str) -> Option<&str> {
     let quote = text.chars().next().filter(|c| *c == '"' || *c == '\'')?;
+    let long = quote == '"' || text[1..].starts_with('\\');
     let mut escaped = false;
     for (i, c) in text.char_indices().skip(1) {
         match c {
@@ -56,7 +57,7 @@ fn after_literal(text: &str) -> Option<&str> {
             '\\' => escaped = true,
             _ if c == quote => return Some(&text[i + 1..]),
             // A lifetime or a label has no second quote.
-            _ if quote == '\'' && i > 1 => return None,
+            _ if !long && i > 1 => return None,
             _ => {}
         }
     }

@@ -4,8 +4,9 @@
  * A lesson is a session file: calibration sheets, then events (load a sheet, set the
  * zero, read a sample, ...); README.md has its bytes, under "The session file".
  * irga_run answers each event with a record of 24 bytes; irga_reading and irga_area take
- * the numbers out of such a record as doubles; irga_lines gives the same answers as text.
- * irga_write makes a session file, so that a lesson can be prepared in advance.
+ * the numbers out of such a record as doubles; irga_lines gives the same answers as text,
+ * and irga_page the accepted samples as a page for the lab book. irga_write makes a session
+ * file, so that a lesson can be prepared in advance.
  *
  * The library is libhost.a, for x86-64 Linux, which `rt staticlib host` makes. It calls no
  * other library:
@@ -14,7 +15,7 @@
  *
  * examples/readings.c reads a session, examples/plan.c prepares one.
  *
- * What holds for all five functions:
+ * What holds for all six functions:
  *
  * - No state is kept between calls and nothing is allocated. Any number of threads may
  *   call at once, as long as nothing that a call is lent is written by anyone else until
@@ -45,6 +46,8 @@ extern "C" {
 #define IRGA_RECORD_BYTES 24
 /* A line of irga_lines has at most 72 bytes, its line feed included. */
 #define IRGA_LINE_ROOM 72
+/* Every line of irga_page has 72 columns and a line feed. */
+#define IRGA_PAGE_LINE_BYTES 73
 
 #define IRGA_SHEETS_MAX 16
 #define IRGA_EVENTS_MAX 2700
@@ -53,6 +56,15 @@ extern "C" {
 /* An output of this size is long enough for any session: 24 * 2700 and 72 * 2700. */
 #define IRGA_ANSWERS_MAX 64800
 #define IRGA_LINES_MAX 194400
+/*
+ * The greatest length that a page can have: of 2,700 events one has to be the load, and each
+ * of the 2,699 samples after it has a header line of its own, 2 * 73 * 2699.
+ */
+#define IRGA_PAGE_MAX 394054
+
+/* How many sample lines may stand under a header line of irga_page: 1 to 999. */
+#define IRGA_HEADER_EVERY_MIN 1
+#define IRGA_HEADER_EVERY_MAX 999
 
 /* Where the fields of a sheet begin. Bytes 20 to 23 are zero. */
 #define IRGA_SHEET_A1 0  /* i32 */
@@ -99,8 +111,8 @@ enum irga_kind {
 };
 
 /*
- * Why an event (1 to 11), a file (12) or an output (13) is refused, and why nothing is
- * written of sheets and events (11, 14, 15).
+ * Why an event (1 to 11), a file (12) or an output (13) is refused, why nothing is written
+ * of sheets and events (11, 14, 15), and why a page is turned away (12, 16, 17).
  */
 enum irga_refusal {
     IRGA_ACCEPTED = 0,
@@ -121,8 +133,10 @@ enum irga_refusal {
     IRGA_MALFORMED_FILE = 12,      /* header or length not as the format says */
     IRGA_OUTPUT_TOO_SHORT = 13,    /* the output is shorter than the function asks */
     IRGA_TOO_MANY = 14,            /* more bytes than 16 sheets or 2,700 events have */
-    IRGA_NO_ROOM = 15              /* the buffer is shorter than the file that is to be
+    IRGA_NO_ROOM = 15,             /* the buffer is shorter than the file that is to be
                                       written */
+    IRGA_HEADER_INTERVAL = 16,     /* sample lines under a header line outside 1 to 999 */
+    IRGA_PAGE_TOO_LONG = 17        /* the buffer is shorter than the page */
 };
 
 /*
@@ -161,6 +175,32 @@ uint8_t irga_run(const uint8_t *file, size_t file_length,
  */
 uint8_t irga_lines(const uint8_t *file, size_t file_length,
                    uint8_t *out, size_t out_length, size_t *written);
+
+/*
+ * The accepted samples of the same run as a page for the lab book, in ASCII: lines of 72
+ * columns and a line feed. A sample's line has its event's ordinal in the session, from 1,
+ * right-aligned in 6 columns; then wet, dry and wet less the reference cylinder in umol/mol,
+ * with two decimals, each right-aligned in 14 columns; then spaces. In absolute mode the
+ * last of the three is blank. Each figure is rounded by itself, as the engine rounds, and
+ * one that rounds to nothing is 0.00 without a sign. A header line of the same columns (no,
+ * wet, dry, diff) stands before the first sample line, and after every header_every of them
+ * if more follow. Without an accepted sample the page is empty. No zero byte ends it.
+ *
+ * file, file_length   the session file
+ * header_every        how many sample lines stand under a header line, 1 to 999
+ * out, out_length     where the page goes; 146 times the event count is enough, and
+ *                     IRGA_PAGE_MAX bytes always are
+ * written             gets the length of the page, 73 times its lines
+ *
+ * Returns IRGA_ACCEPTED or, the first that applies: IRGA_MALFORMED_FILE,
+ * IRGA_HEADER_INTERVAL (header_every outside 1 to 999) or IRGA_PAGE_TOO_LONG (out_length
+ * below the length of the page).
+ *
+ * Touches: with 0, the first *written bytes of out; with 12, 16 or 17, *written is 0. All
+ * other bytes of out stay.
+ */
+uint8_t irga_page(const uint8_t *file, size_t file_length, uint32_t header_every,
+                  uint8_t *out, size_t out_length, size_t *written);
 
 /*
  * The numbers of an accepted sample's answer, each the whole number exactly.

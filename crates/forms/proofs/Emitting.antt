@@ -1,20 +1,18 @@
--- What is put of an event in each form, with the record as the code makes it: an entry has its record's kind byte. And the room that a
--- list of events asks. Assumes nothing.
-use Prim.Native.Nat.{ℕ, _*_, _≤_}
+-- What is put of an event in each form, with the record as the code makes it: an entry has its record's kind byte. And the room of
+-- any form. Assumes nothing.
+use Prim.Native.Nat.{ℕ, _≤_}
 use native.Mathlib.Omega.{arith}
 use mathlib.Core.Path.{_≡_}
-use mathlib.Core.List.{List, [], _∷_}
-use lib.ListN.{length}
 use Rattle.layout.specs.declared.AnswerRecord.{AnswerRecord}
 use Rattle.layout.specs.declared.EventRecord.{EventRecord}
 use Rattle.layout.specs.Records.{answerBytes}
 use Rattle.text.specs.Line.{lineOf}
 use Rattle.rules.specs.declared.State.{State}
 use Rattle.rules.specs.declared.Stepped.{Stepped}
-use Rattle.engine.specs.Transcript.{Line, lineAt, recordOfLine, recordWith}
+use Rattle.engine.specs.Transcript.{lineAt, recordOfLine, recordWith}
 use Rattle.entries.specs.Entries.{entryOf}
 use Rattle.forms.specs.declared.Form.{Form}
-use Rattle.forms.specs.Forms.{emitted, roomOf, roomFrom}
+use Rattle.forms.specs.Forms.{emitted, roomOf}
 use Rattle.entries.proofs.KindByte.{kind-kept}
 
 module _ (st : State) (event : EventRecord) (next : Stepped) {a : AnswerRecord} (e : a ≡ recordWith (event .kind) (next .answer)) where
@@ -27,11 +25,7 @@ module _ (st : State) (event : EventRecord) (next : Stepped) {a : AnswerRecord} 
   pub lines-are : {form : Form} (ordinal : ℕ) → form ≡ Form.Lines → emitted form ordinal (lineAt st (entryOf event) next) ≡ lineOf ordinal a
   lines-are ordinal f = rw (f, record-is)
 
--- as much for each event
-pub room-all : (form : Form) (ls : List Line) → roomFrom form ls ≡ roomOf form * length ls
-room-all form [] = omega arith
-room-all form (l ∷ ls) = omega (arith, room-all form ls)
-
+-- no form asks more
 pub room-most : (form : Form) → roomOf form ≤ 72
 room-most Form.Records = omega arith
 room-most Form.Lines = omega arith

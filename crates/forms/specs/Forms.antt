@@ -21,8 +21,3 @@ roomOf Form.Lines = lineRoom
 abbrev pub emittedFrom : Form → ℕ → List Line → List ℕ
 emittedFrom form ordinal [] = []
 emittedFrom form ordinal (l ∷ ls) = emitted form ordinal l ++ emittedFrom form (ordinal + 1) ls
-
--- and the room that the list asks
-abbrev pub roomFrom : Form → List Line → ℕ
-roomFrom form [] = 0
-roomFrom form (l ∷ ls) = roomOf form + roomFrom form ls

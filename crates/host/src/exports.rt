@@ -4,11 +4,13 @@ ghost use lib.ListN.{getD};
 ghost use Rattle.forms.specs.declared.Form.{Form};
 ghost use Rattle.session.specs.Run.{FillsAs};
 ghost use Rattle.packing.specs.Write.{FillsPacked};
+ghost use Rattle.page.specs.Page.{FillsPage};
 ghost use Rattle.doubles.specs.Doubles.{hostRefusal, hostValues, hostSampleIn, hostAreaIn};
 use doubles::HostAnswer;
 use doubles::answers::area_in;
 use doubles::answers::sample_in;
 use packing::write_records;
+use page::page;
 use printing::lines;
 use session::run::run;
 
@@ -32,6 +34,17 @@ pub extern "C" fn irga_lines(file: &[u8], out: &mut [u8], written: &mut usize) -
     let put = lines(file, out);
     *written = put.written;
     put.status
+}
+
+// Puts the page for the lab book of a session file into `out`, with a header line at every so many sample lines: 0, or 12, 16 or 17, which
+// leaves `out` as it was. `written` becomes the length of the page, 0 if it was turned away.
+#[no_mangle]
+pub extern "C" fn irga_page(file: &[u8], every: u32, out: &mut [u8], written: &mut usize) -> u8
+    ensures { λ r. ⌜ FillsPage (now (file .entry)) every (now (out .entry)) r (now (written .exit)) (now (out .exit)) ⌝ }
+{
+    let made = page(file, every, out);
+    *written = made.written;
+    made.status
 }
 
 // The answer to a sample, from its 24 bytes: 0 with wet, dry and signal, or a refusal, which leaves all three as they were.

@@ -1,2 +1,2 @@
-// What a host links: a session file run into a lent buffer, its answers as doubles, and a session file written.
+// What a host links: a session file run into a lent buffer, as answers, lines or a page, its answers as doubles, and a session file written.
 pub mod exports;

@@ -1,0 +1,4 @@
+pub mod Lines
+pub mod Count
+pub mod Every
+pub mod Outcome

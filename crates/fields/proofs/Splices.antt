@@ -1,4 +1,5 @@
--- Bytes put into a lent buffer: by a copy into the part from an index on, and one piece after the other. Assumes nothing.
+-- Bytes put into a lent buffer: by a copy into the part from an index on, one piece after the other, and one over
+-- the end of another. Assumes nothing.
 use Prim.Native.Nat.{ℕ, _+_, _-_, _≤_}
 use native.Mathlib.Nat.{add-assoc, add-zero, le-refl}
 use native.Mathlib.Omega.{arith}
@@ -28,3 +29,15 @@ next out a b at i e h =
     let d : drop (at + i + length b) (splice out at a) ≡ drop (at + (i + length b)) out =
     rw (← drop-drop (length b) (at + i) (splice out at a), q, drop-at _ (drop (at + i) out) (at + i) p, drop-drop, add-assoc) in
     rw (d, q, take-at _ (drop (at + i) out) (at + i) p, length-append, e) (simp append-assoc)
+
+-- s put over t, which ends what was put and is as long
+pub over : (out a t s : List ℕ) (at : ℕ) → length t ≡ length s → at + length (a ++ t) ≤ length out
+    → splice (splice out at (a ++ t)) (at + length a) s ≡ splice out at (a ++ s)
+over out a t s at e h =
+    let l = length-append a t in
+    let rest = drop (at + (length a + length s)) out in
+    let p : length (take at out ++ a) ≡ at + length a = rw (length-append, length-take-le at out (omega arith)) in
+    let q : splice out at (a ++ t) ≡ take at out ++ a ++ (t ++ rest) = rw (l, e) (simp append-assoc) in
+    let d : drop (at + length a + length s) (splice out at (a ++ t)) ≡ rest =
+    rw (← drop-drop (length s) (at + length a) (splice out at (a ++ t)), q, drop-at _ (t ++ rest) (at + length a) p, drop-at t rest (length s) e) in
+    rw (d, q, take-at _ (t ++ rest) (at + length a) p, length-append) (simp append-assoc)

@@ -1,56 +1,37 @@
--- Laws of columns and figures: spaces put one by one, text in a column, how long a figure gets, and its sign. Assumes nothing.
+-- Laws of columns and figures: text in a column, how long a figure gets, and its sign. Assumes nothing.
 use Prim.Native.Nat.{ℕ, suc, _+_, _-_, _/_, _%_, _≤_, _<_}
 use native.Mathlib.Omega.{arith}
-use mathlib.Core.Bool.{Bool, true, false}
+use mathlib.Core.Bool.{true, false}
 use mathlib.Core.List.{List, [], _∷_, _++_, append-assoc, append-nil}
 use mathlib.Core.Path.{_≡_, refl, sym}
 use lib.IntN.{ℤ, pos, negsuc, natAbs}
 use lib.Signed.{ltZ}
-use lib.ListN.{length, set, replicate, length-append, length-replicate, replicate-append-replicate}
+use lib.ListN.{length, length-append, length-replicate, replicate-append-replicate}
 use borrow.Author.Tests.{ltb-true}
 use Rattle.layout.specs.Lent.{Puts}
-use Rattle.layout.proofs.Lent.{puts-none, puts-both, puts-length}
+use Rattle.layout.proofs.Lent.{puts-both, puts-over}
 use Rattle.text.specs.Line.{decimal}
 use Rattle.text.proofs.Decimal.{at-most}
-use Rattle.text.proofs.Stored.{stored}
 use Rattle.rounding.proofs.Nearest.{near-size}
 use Rattle.figures.specs.Figures.{spaces, right, hundredths, pointed, signedPointed, figure, signByte}
-
--- ---- i of n spaces are put; `out` was `old`
-pub record Spacing (old : List ℕ) (at n : ℕ) (out : List ℕ) (i : ℕ) : Type 0 where
-  pub passed : i ≤ n
-  pub put : Puts old at (spaces i) out (at + i)
-
-module _ {old : List ℕ} {at n : ℕ} (room : at + n ≤ length old) where
-  pub unspaced : Spacing old at n old 0
-  unspaced =
-      let z : at + 0 ≡ at = omega arith in
-      record { passed = omega arith; put = rw z (puts-none old at (omega arith)) }
-
-  pub spaced : {out : List ℕ} {i : ℕ} → Spacing old at n out i → i < n → Spacing old at n (set out (at + i) 32) (i + 1)
-  spaced {out} {i} a h =
-      let z : at + (i + 1) ≡ at + i + 1 = omega arith in
-      let l = puts-length (a .put) in
-      record {
-        passed = omega arith;
-        put = rw (z, ← replicate-append-replicate {A = ℕ} i 1 32) (puts-both (a .put) (stored out (at + i) 32 (omega arith)));
-      }
-
-pub all-spaced : {old out : List ℕ} {at n i : ℕ} → Spacing old at n out i → n ≤ i → Puts old at (spaces n) out (at + n)
-all-spaced {n = n} {i = i} a h = let e : i ≡ n = omega (arith, a .passed) in rw e at (a .put)
 
 -- ---- text in a column
 pub right-length : (width : ℕ) (s : List ℕ) → length s ≤ width → length (right width s) ≡ width
 unfolding right
 right-length width s h = rw (length-append, length-replicate) (omega arith)
 
--- spaces, then the text
-pub in-column : (width : ℕ) (s : List ℕ) (blank : ℕ) {old mid out : List ℕ} {at p r : ℕ} → length s ≤ width → blank ≡ width - length s
-    → Puts old at (spaces blank) mid p → Puts mid p s out r → Puts old at (right width s) out r × (r ≡ at + width)
+-- a column of spaces, and the text over its right end
+pub in-column : (width : ℕ) (s : List ℕ) {old mid out : List ℕ} {at past p r : ℕ} → length s ≤ width → Puts old at (spaces width) mid past
+    → Puts mid p s out r → p ≡ at + (width - length s) → Puts old at (right width s) out r × (r ≡ at + width)
 unfolding right
-in-column width s blank h b f g =
-    let p = rw b at (puts-both f g) in
-    (p, omega (arith, p .ends, length-append (spaces (width - length s)) s, length-replicate {A = ℕ} (width - length s) 32))
+in-column width s {old} {mid} {out} {at} {r = r} h f g e =
+    let blank = width - length s in
+    let l : length (spaces blank) ≡ blank = length-replicate {A = ℕ} blank 32 in
+    let z : blank + length s ≡ width = omega arith in
+    let c : spaces width ≡ spaces blank ++ spaces (length s) = rw (replicate-append-replicate {A = ℕ} blank (length s) 32, z) in
+    let d : Puts mid (at + length (spaces blank)) s out r = rw (l, ← e) g in
+    let q = puts-over (spaces blank) (spaces (length s)) s (rw c at f) (length-replicate {A = ℕ} (length s) 32) d in
+    (q, omega (arith, q .ends, length-append (spaces blank) s))
 
 -- a column with nothing in it
 pub blank-column : (width : ℕ) → right width [] ≡ spaces width

@@ -11,7 +11,7 @@ use lib.ListN.{length, length-append}
 use Rattle.rounding.proofs.Nearest.{near-half}
 use Rattle.text.specs.Line.{decimalIn, decimal}
 use Rattle.text.proofs.Decimal.{one-to-twenty, one-digit, last-digit}
-use Rattle.figures.specs.Figures.{spaces, right, hundredths, pointed, signedPointed, figure, Between, zeroFigure, FigureHolds, EveryFigure}
+use Rattle.figures.specs.Figures.{spaces, right, hundredths, pointed, signedPointed, figure, Between, zeroFigure, EveryFigure}
 use Rattle.figures.proofs.Columns.{hundredths-most}
 
 -- ---- bytes between two numbers

@@ -1,6 +1,6 @@
 -- Text at the right end of a column, and the figures of the lab book's page (document 02, R-4), in ASCII: 32 is the space, 45 the minus
 -- sign, 46 the point, 48 to 57 the digits. Assumes nothing.
-use Prim.Native.Nat.{ℕ, suc, _+_, _*_, _-_, _/_, _%_, _≤_}
+use Prim.Native.Nat.{ℕ, suc, _+_, _-_, _/_, _%_, _≤_}
 use mathlib.Core.List.{List, [], _∷_, _++_}
 use mathlib.Core.Path.{_≡_}
 use lib.IntN.{ℤ, pos, negsuc, natAbs, _-ℤ_, _*ℤ_}

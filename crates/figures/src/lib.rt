@@ -7,7 +7,7 @@ ghost use lib.IntN.{natAbs};
 ghost use lib.ListN.{length};
 ghost use Rattle.layout.specs.Lent.{Puts};
 ghost use Rattle.text.specs.Line.{decimal};
-ghost use Rattle.figures.specs.Figures.{spaces, right, pointed, figure, signByte};
+ghost use Rattle.figures.specs.Figures.{right, pointed, figure, signByte};
 use rounding::near;
 use rounding::signed::below_zero;
 use rounding::signed::magnitude;
@@ -39,8 +39,8 @@ fn put_hundredths(out: &mut [u8], at: usize, sign: u8, n: u64) -> usize
     ensures { λ r. ⌜ Puts (now (out .entry)) at (right 14 (sign ∷ pointed n)) (now (out .exit)) r ⌝ }
     ensures { λ r. ⌜ r ≡ at + 14 ⌝ }
 {
-    let next = put_spaces(out, at, 10 - digits(n / 100));
-    let next = put_byte(out, next, sign);
+    let past = put_text(out, at, b"              ");
+    let next = put_byte(out, past - 4 - digits(n / 100), sign);
     put_pointed(out, next, n)
 }
 
@@ -61,20 +61,16 @@ pub fn put_ordinal(out: &mut [u8], at: usize, n: u64) -> usize
     ensures { λ r. ⌜ Puts (now (out .entry)) at (right 6 (decimal n)) (now (out .exit)) r ⌝ }
     ensures { λ r. ⌜ r ≡ at + 6 ⌝ }
 {
-    let next = put_spaces(out, at, 6 - digits(n));
-    put_decimal(out, next, n)
+    let past = put_text(out, at, b"      ");
+    put_decimal(out, past - digits(n), n)
 }
 
-// Puts spaces.
-pub fn put_spaces(out: &mut [u8], at: usize, n: usize) -> usize
-    requires { ⌜ at + n ≤ length (now out) ⌝ }
-    ensures { λ r. ⌜ Puts (now (out .entry)) at (spaces n) (now (out .exit)) r ⌝ }
-    ensures { λ r. ⌜ r ≡ at + n ⌝ }
+// Puts a text. Columns are filled with spaces that stand in the program, and not one by one: a compiler makes a call of the C library of a
+// loop that fills, and a host without one could not link it.
+pub fn put_text(out: &mut [u8], at: usize, text: &[u8]) -> usize
+    requires { ⌜ at + length (now text) ≤ length (now out) ⌝ }
+    ensures { λ r. ⌜ Puts (now (out .entry)) at (now (text .entry)) (now (out .exit)) r ⌝ }
 {
-    let mut i = 0;
-    while i < n {
-        out[at + i] = b' ';
-        i += 1;
-    }
-    at + n
+    bytes::copy(text, &mut out[at..]);
+    at + text.len()
 }

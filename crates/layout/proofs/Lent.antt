@@ -1,6 +1,6 @@
--- Bytes put into a lent buffer: one piece after the other is both at once, and the buffer keeps its length. And the two ways in which
--- a tool ends that fills one. Assumes nothing.
-use Prim.Native.Nat.{ℕ, _<_, _≤_}
+-- Bytes put into a lent buffer: one piece after the other is both at once, one over the end of another takes that end's place, and the
+-- buffer keeps its length. And the two ways in which a tool ends that fills one. Assumes nothing.
+use Prim.Native.Nat.{ℕ, _+_, _<_, _≤_}
 use native.Mathlib.Omega.{arith}
 use mathlib.Core.Bool.{Bool, true, false, cond}
 use mathlib.Core.List.{List, [], _++_}
@@ -9,7 +9,7 @@ use borrow.Author.Tests.{eqb-true, ne-eqb}
 use lib.Dec.{eqb}
 use lib.ListN.{length, length-append, length-take, length-drop}
 use Rattle.layout.specs.Lent.{Puts, Fills}
-use Rattle.fields.proofs.Splices.{splice-none, next}
+use Rattle.fields.proofs.Splices.{splice-none, next, over}
 
 pub puts-none : (old : List ℕ) (at : ℕ) → at ≤ length old → Puts old at [] old at
 puts-none old at h = record { ends = omega arith; room = h; stands = sym (splice-none old at) }
@@ -29,6 +29,17 @@ module _ {old : List ℕ} {at : ℕ} {bytes out : List ℕ} {past : ℕ} (p : Pu
         room = omega (arith, q .room, puts-length);
         stands = q .stands ∙ rw (p .stands, e) (next old bytes more at (length bytes) refl (omega arith));
       }
+
+-- a piece put over the end of another, in the place of one as long
+pub puts-over : (a t s : List ℕ) {old mid out : List ℕ} {at past past′ : ℕ} → Puts old at (a ++ t) mid past → length t ≡ length s
+    → Puts mid (at + length a) s out past′ → Puts old at (a ++ s) out past′
+puts-over a t s {old} {at = at} p e q =
+    let l = length-append a t in let m = length-append a s in
+    record {
+      ends = omega (arith, q .ends);
+      room = omega (arith, p .room, p .ends, q .ends);
+      stands = q .stands ∙ rw (p .stands) (over old a t s at e (omega (arith, p .room, p .ends)));
+    }
 
 -- ---- a status is 0 where one test before the others is passed, and theirs is 0
 pub status-passed : (b : Bool) {rest number : ℕ} → 0 < number → cond b rest number ≡ 0 → (b ≡ true) × (rest ≡ 0)

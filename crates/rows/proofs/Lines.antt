@@ -2,7 +2,7 @@
 use Prim.Native.Nat.{ℕ, _+_, _≤_, _<_}
 use native.Mathlib.Omega.{arith}
 use mathlib.Core.Bool.{true}
-use mathlib.Core.List.{List, [], _∷_, _++_}
+use mathlib.Core.List.{List, [], _∷_, _++_, append-assoc}
 use mathlib.Core.Path.{_≡_, refl}
 use lib.IntN.{ℤ, pos, natAbs, _-ℤ_}
 use lib.ListN.{length, length-append}
@@ -84,8 +84,10 @@ module _ (ordinal : ℕ) (mode : Mode) (wet dry : ℤ) (o : ordinal < 1000000) (
       (fitting-figure dry (omega arith)) (third-most mode wet m w)
 
 -- ---- a line put piece by piece
-pub line-put : (a b c d : List ℕ) {old o1 o2 o3 o4 o5 o6 : List ℕ} {at p1 p2 p3 p4 p5 p6 : ℕ} → Puts old at (right 6 a) o1 p1
-    → Puts o1 p1 (right 14 b) o2 p2 → Puts o2 p2 (right 14 c) o3 p3 → Puts o3 p3 (right 14 d) o4 p4 → Puts o4 p4 (spaces 24) o5 p5
-    → Puts o5 p5 (10 ∷ []) o6 p6 → Puts old at (columns a b c d) o6 p6
+pub line-put : (a b c d : List ℕ) {old o1 o2 o3 o4 o5 : List ℕ} {at p1 p2 p3 p4 p5 : ℕ} → Puts old at (right 6 a) o1 p1
+    → Puts o1 p1 (right 14 b) o2 p2 → Puts o2 p2 (right 14 c) o3 p3 → Puts o3 p3 (right 14 d) o4 p4 → Puts o4 p4 (spaces 24 ++ (10 ∷ [])) o5 p5
+    → Puts old at (columns a b c d) o5 p5
 unfolding columns
-line-put a b c d f1 f2 f3 f4 f5 f6 = puts-both (puts-both (puts-both (puts-both (puts-both f1 f2) f3) f4) f5) f6
+line-put a b c d f1 f2 f3 f4 f5 =
+    rw (append-assoc (right 6 a ++ right 14 b ++ right 14 c ++ right 14 d) (spaces 24) (10 ∷ []))
+    (puts-both (puts-both (puts-both (puts-both f1 f2) f3) f4) f5)

@@ -8,15 +8,14 @@ ghost use lib.ListN.{length};
 ghost use Rattle.layout.specs.Lent.{Puts};
 ghost use Rattle.sampling.specs.Sample.{modeWithin};
 ghost use Rattle.figures.specs.Figures.{right};
-ghost use Rattle.rows.specs.Rows.{Columned, shownOf, thirdOf, sampleLine, headerLine, headerDue, rowsOf, underHeaders, joined};
+ghost use Rattle.rows.specs.Rows.{Columned, shownOf, thirdOf, sampleLine, headerDue, rowsOf, underHeaders, joined};
 use figures::put_figure;
 use figures::put_ordinal;
-use figures::put_spaces;
+use figures::put_text;
 use rounding::signed::difference;
 use rounding::signed::positive;
 use rules::Answer;
 use sampling::Mode;
-use text::put_byte;
 
 // What the page shows of an answer: the values of an accepted sample.
 pub enum Shown {
@@ -66,19 +65,14 @@ fn put_header_due(out: &mut [u8], at: usize, every: usize, samples: usize) -> us
     ensures { λ r. ⌜ Puts (now (out .entry)) at (joined (headerDue every samples)) (now (out .exit)) r ⌝ }
 {
     if samples % every == 0 {
-        put_header(out, at)
+        put_text(
+            out,
+            at,
+            b"    no           wet           dry          diff                        \n",
+        )
     } else {
         at
     }
-}
-
-fn put_header(out: &mut [u8], at: usize) -> usize
-    requires { ⌜ at + 73 ≤ length (now out) ⌝ }
-    ensures { λ r. ⌜ Puts (now (out .entry)) at headerLine (now (out .exit)) r ⌝ }
-{
-    let header = b"    no           wet           dry          diff                        \n";
-    bytes::copy(header, &mut out[at..]);
-    at + 73
 }
 
 // Puts the line of a sample: its event's ordinal, wet, dry, and wet less the reference's cylinder.
@@ -90,8 +84,7 @@ fn put_sample(out: &mut [u8], at: usize, ordinal: u64, mode: Mode, wet: i64, dry
     let next = put_figure(out, next, wet);
     let next = put_figure(out, next, dry);
     let next = put_third(out, next, mode, wet);
-    let next = put_spaces(out, next, 24);
-    put_byte(out, next, b'\n')
+    put_text(out, next, b"                        \n")
 }
 
 // Puts wet less the reference's cylinder at the right end of 14 columns, which are blank in absolute mode. The difference is rounded, and not
@@ -102,7 +95,7 @@ fn put_third(out: &mut [u8], at: usize, mode: Mode, wet: i64) -> usize
     ensures { λ r. ⌜ r ≡ at + 14 ⌝ }
 {
     match mode {
-        Mode::Absolute => put_spaces(out, at, 14),
+        Mode::Absolute => put_text(out, at, b"              "),
         Mode::Against(gas) => put_figure(out, at, difference(wet, positive(gas.c))),
     }
 }

@@ -1,7 +1,7 @@
 -- `rows::put_rows` meets its contract: nothing, or the header line where one is due and the sample's. Assumes nothing.
 use native.Mathlib.Omega.{arith}
 use mathlib.Core.Path.{_≡_}
-use lib.ListN.{length, length-append}
+use lib.ListN.{length-append}
 use mir.Syntax.{w64}
 use mir.Val.{toZ, ofZ}
 use borrow.Author.Needs.{needs}

@@ -1,4 +1,4 @@
--- `rows::put_sample` meets its contract: four columns, spaces, and a line feed. Assumes nothing.
+-- `rows::put_sample` meets its contract: four columns, and spaces with a line feed. Assumes nothing.
 use native.Mathlib.Omega.{arith}
 use mir.Facts.{toZ-ofZ}
 use borrow.Author.Needs.{needs}
@@ -21,9 +21,8 @@ put-figure-requires-2 c κs =
 
 returns : tie.Need-returns
 returns c =
-    let feed = c .before .before in
-    let spaces = feed .before .before .before .before in
-    let third = spaces .before .before .before .before in
+    let rest = c .before .before in
+    let third = rest .before .before .before .before .before in
     let dry = third .before .before .before .before in
     let wet = dry .before .before .before .before in
     let ordinal = wet .before .before .before .before in
@@ -33,11 +32,11 @@ returns c =
     let a = s .args in
     line-put (decimal (a .ordinal)) (figure (a .wet)) (figure (a .dry)) (thirdOf (a .mode) (a .wet)) (ordinal .put-ordinal .ensures .0)
     (simp toZ-ofZ at (wet .put-figure .ensures .0)) (simp toZ-ofZ at (dry .put-figure2 .ensures .0)) (simp toZ-ofZ at (third .put-third .ensures .0))
-    (spaces .put-spaces .ensures .0) (feed .put-byte .ensures)
+    (rest .put-text .ensures)
 
 pub put-sample-spec : {M : Type 1} → statement M
 put-sample-spec =
     tie.close
     (tie.spec
-    (λ c κs. search needs) put-figure-requires put-figure-requires-2 (λ c κs. search needs) (λ c κs. search needs) (λ c κs. search needs)
+    (λ c κs. search needs) put-figure-requires put-figure-requires-2 (λ c κs. search needs) (λ c. search needs) (λ c κs. search needs)
     (λ c. search needs) returns)

@@ -1,5 +1,4 @@
 -- `rows::put_third` meets its contract: blank in absolute mode, else wet less the cylinder. Assumes nothing.
-use Prim.Native.Nat.{_≤_}
 use native.Mathlib.Omega.{arith}
 use lib.IntN.{pos}
 use mir.Facts.{toZ-ofZ}
@@ -38,8 +37,8 @@ put-figure-requires c κs =
 
 returns : tie.Need-returns
 returns c =
-    let p = c .before .before .put-spaces .ensures in
-    rw (c .before .before .before .before .enum-told .given .1, blank-column 14) p
+    let p = c .before .before .put-text .ensures in
+    rw (c .before .before .before .before .before .enum-told .given .1, blank-column 14) (p, omega (arith, p .ends))
 
 returns-2 : tie.Need-returns-2
 returns-2 c =
@@ -54,5 +53,5 @@ pub put-third-spec : {M : Type 1} → statement M
 put-third-spec =
     tie.close
     (tie.spec
-    (λ c. search needs) (λ c κs. search needs) (λ c. search needs) positive-requires difference-requires put-figure-requires (λ c. search needs)
+    (λ c. search needs) (λ c. search needs) (λ c κs. search needs) (λ c. search needs) positive-requires difference-requires put-figure-requires (λ c. search needs)
     returns (λ c. search needs) returns-2)

@@ -1,7 +1,7 @@
 /*
- * stack SESSION...: the most bytes of stack that irga_run, irga_lines and irga_write took over
- * the sessions, each in a line of its own; irga_write makes each of them again from its records,
- * and how many came out as they were is the last line.
+ * stack SESSION...: the most bytes of stack that irga_run, irga_lines, irga_page and irga_write
+ * took over the sessions, each in a line of its own; irga_write makes each of them again from its
+ * records, and how many came out as they were is the last line.
  * Each call runs on a stack of its own that was filled with one byte before; what still has that
  * byte was not touched. The few bytes that entering takes are counted too.
  */
@@ -14,12 +14,13 @@
 
 enum { STACK_BYTES = 1 << 18, PAINT = 0xA5 };
 
-static uint8_t stack[STACK_BYTES], file[IRGA_FILE_MAX + 1], out[IRGA_LINES_MAX];
+static uint8_t stack[STACK_BYTES], file[IRGA_FILE_MAX + 1], out[IRGA_PAGE_MAX];
 static size_t length, written, made;
 static ucontext_t here, there;
 
 static void run(void) { irga_run(file, length, out, sizeof out, &written); }
 static void lines(void) { irga_lines(file, length, out, sizeof out, &written); }
+static void page(void) { irga_page(file, length, 1, out, sizeof out, &written); }
 
 /* A header of 16 bytes begins with the sheet count, at most 16, so that its first byte has it. */
 static void plan(void) {
@@ -31,7 +32,7 @@ static void plan(void) {
     made += status == IRGA_ACCEPTED && written == length && memcmp(out, file, length) == 0;
 }
 
-static void (*const calls[])(void) = {run, lines, plan};
+static void (*const calls[])(void) = {run, lines, page, plan};
 enum { CALLS = sizeof calls / sizeof calls[0] };
 
 static size_t taken_by(void (*call)(void)) {

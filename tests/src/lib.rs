@@ -2,7 +2,8 @@
 //! and 02 alone, so that two readings of the same paper can be held against each other.
 //!
 //! `rules` is the arithmetic, `engine` the nine events, `file` the session file
-//! and the program, `plan` a session file written in advance. `big`, `exact` and `ledger`
+//! and the program, `plan` a session file written in advance, `page` a page for the lab
+//! book. `big`, `exact` and `ledger`
 //! are the other side of demand 3: equation (11) in exact fractions and the ledger that
 //! walks beside the engine. `random` and `sessions` invent lessons and plans, `hostile`
 //! spoils one thing at a time, and `harness` compares an engine or a writer with this one
@@ -31,6 +32,7 @@ pub mod lesson;
 #[cfg(feature = "library")]
 pub mod library;
 pub mod pace;
+pub mod page;
 pub mod plan;
 pub mod random;
 pub mod rules;

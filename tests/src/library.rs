@@ -1,4 +1,4 @@
-//! The proved library: its five C functions as declared in include/irga.h, and a safe
+//! The proved library: its six C functions as declared in include/irga.h, and a safe
 //! function over each. Slices and references meet what the header asks: no pointer is
 //! NULL, and places that are written overlap no other.
 
@@ -19,6 +19,15 @@ extern "C" {
     fn irga_lines(
         file: *const u8,
         file_length: usize,
+        out: *mut u8,
+        out_length: usize,
+        written: *mut usize,
+    ) -> u8;
+
+    fn irga_page(
+        file: *const u8,
+        file_length: usize,
+        header_every: u32,
         out: *mut u8,
         out_length: usize,
         written: *mut usize,
@@ -53,6 +62,15 @@ pub fn run(file: &[u8], output: &mut [u8]) -> Outcome {
 /// Runs a lent file and writes the lines from the start of the lent output.
 pub fn lines(file: &[u8], output: &mut [u8]) -> Outcome {
     over_lent(irga_lines, file, output)
+}
+
+/// Writes the page of a lent file from the start of the lent output.
+#[allow(unsafe_code)]
+pub fn page(file: &[u8], every: u32, output: &mut [u8]) -> Outcome {
+    let mut written = UNWRITTEN;
+    let (out, room) = (output.as_mut_ptr(), output.len());
+    let status = unsafe { irga_page(file.as_ptr(), file.len(), every, out, room, &mut written) };
+    Outcome { status, written }
 }
 
 /// Wet, dry and signal of a sample's answer.

@@ -7,9 +7,11 @@ use std::fs::{self, File};
 use std::path::{Path, PathBuf};
 use std::process::{Command, Output, Stdio};
 
+use irga_tests::figures::decimal;
 use irga_tests::file;
 use irga_tests::harness::{Executable, Program};
 use irga_tests::lesson;
+use irga_tests::page;
 use irga_tests::random::Random;
 use irga_tests::rules::Refusal;
 use irga_tests::sessions::{self, PROFILES};
@@ -86,7 +88,7 @@ const OFFSETS: [(&str, usize); 16] = [
     ("IRGA_ANSWER_Y", 16),
 ];
 
-const REFUSALS: [(&str, Refusal); 15] = [
+const REFUSALS: [(&str, Refusal); 17] = [
     ("IRGA_NO_SHEET", Refusal::NoSheet),
     ("IRGA_SHEET_LIMITS", Refusal::SheetOutsideLimits),
     ("IRGA_ZERO_RANGE", Refusal::ZeroOutsideRange),
@@ -102,6 +104,8 @@ const REFUSALS: [(&str, Refusal); 15] = [
     ("IRGA_OUTPUT_TOO_SHORT", Refusal::OutputTooShort),
     ("IRGA_TOO_MANY", Refusal::TooMany),
     ("IRGA_NO_ROOM", Refusal::NoRoom),
+    ("IRGA_HEADER_INTERVAL", Refusal::HeaderInterval),
+    ("IRGA_PAGE_TOO_LONG", Refusal::PageTooLong),
 ];
 
 /// The header's constants by name, and what this implementation or document 01 has.
@@ -111,11 +115,15 @@ fn constants() -> Vec<(&'static str, usize)> {
         ("IRGA_HEADER_BYTES", file::HEADER_BYTES),
         ("IRGA_RECORD_BYTES", file::RECORD_BYTES),
         ("IRGA_LINE_ROOM", file::LINE_ROOM),
+        ("IRGA_PAGE_LINE_BYTES", page::LINE_BYTES),
         ("IRGA_SHEETS_MAX", sheets),
         ("IRGA_EVENTS_MAX", events),
         ("IRGA_FILE_MAX", lesson::longest().to_bytes().len()),
         ("IRGA_ANSWERS_MAX", file::RECORD_BYTES * events),
         ("IRGA_LINES_MAX", file::LINE_ROOM * events),
+        ("IRGA_PAGE_MAX", page::LONGEST),
+        ("IRGA_HEADER_EVERY_MIN", *page::EVERY.start() as usize),
+        ("IRGA_HEADER_EVERY_MAX", *page::EVERY.end() as usize),
         ("IRGA_ACCEPTED", 0),
     ];
     constants.extend(OFFSETS);
@@ -141,29 +149,32 @@ fn constants_are_those_of_the_format() {
     compile(C, &["-fsyntax-only", path.to_str().expect("a path in UTF-8")]);
 }
 
-/// A program that calls all five functions and gives their sum of statuses: 12 + 12 for a
+/// A program that calls all six functions and gives their sum of statuses: three times 12 for a
 /// file of one byte, 11 + 11 for an answer of one, 11 for an event of one.
 const CALLS: &str = r#"
 #include "irga.h"
 int main(void) {
     uint8_t byte = 0, other = 0, out = 7;
-    size_t written = 1, planned = 1;
+    size_t written = 1, lines = 1, page = 1, planned = 1;
     double a = 1, b = 2, c = 3;
     int sum = irga_run(&byte, 1, &out, 1, &written);
-    sum += irga_lines(&byte, 1, &out, 1, &written);
+    sum += irga_lines(&byte, 1, &out, 1, &lines);
+    sum += irga_page(&byte, 1, IRGA_HEADER_EVERY_MAX, &out, 1, &page);
     sum += irga_reading(&byte, 1, &a, &b, &c);
     sum += irga_area(&byte, 1, &a);
     sum += irga_write(&byte, 0, &other, 1, &out, 1, &planned);
-    return written == 0 && planned == 0 && out == 7 && a == 1 && b == 2 && c == 3 ? sum : 0;
+    if (written != 0 || lines != 0 || page != 0 || planned != 0)
+        return 0;
+    return out == 7 && a == 1 && b == 2 && c == 3 ? sum : 0;
 }
 "#;
 
 #[test]
-fn all_five_functions_link_from_c_and_from_cpp() {
+fn all_six_functions_link_from_c_and_from_cpp() {
     for (compiler, name) in [(C, "calls.c"), (CPP, "calls.cpp")] {
         let status = Command::new(link(compiler, name, CALLS)).status();
         let status = status.expect("the program starts").code();
-        assert_eq!(status, Some(12 + 12 + 11 + 11 + 11), "{name}");
+        assert_eq!(status, Some(3 * 12 + 11 + 11 + 11), "{name}");
     }
 }
 
@@ -184,14 +195,6 @@ fn run(program: &Path, words: &[&Path], input: Option<&Path>) -> Output {
         .stdin(input.map_or_else(Stdio::null, open))
         .output()
         .expect("the program starts")
-}
-
-/// A whole number of the smallest units in decimals, by whole numbers alone.
-fn decimal(number: i64, digits: u32) -> String {
-    let unit = 10u64.pow(digits);
-    let size = number.unsigned_abs();
-    let sign = if number < 0 { "-" } else { "" };
-    format!("{sign}{}.{:0width$}", size / unit, size % unit, width = digits as usize)
 }
 
 /// What the program owes to one line of a session; of a refusal only what comes before
@@ -309,8 +312,8 @@ fn readings_of_what_is_no_session() {
     assert_said(&run(&program, &[], None), 1, "refused 12, ");
 }
 
-/// What include/irga.h says of the stack, over the lesson and sessions of every profile: run and
-/// read as lines, and written again from their records.
+/// What include/irga.h says of the stack, over the lesson and sessions of every profile: run, read
+/// as lines and as a page, and written again from their records.
 #[test]
 fn a_call_takes_less_stack_than_the_header_says() {
     let source = fs::read_to_string(repository().join("tests/c/stack.c"));
@@ -327,13 +330,13 @@ fn a_call_takes_less_stack_than_the_header_says() {
     let output = run(&program, &words, None);
     let most = String::from_utf8(output.stdout).expect("a text");
     let most: Vec<usize> = most.lines().map(|line| line.parse().expect("bytes")).collect();
-    println!("stack of run, lines and write, and files written: {most:?}");
-    let &[run, lines, write, made] = &most[..] else {
-        panic!("three functions were called");
+    println!("stack of run, lines, page and write, and files written: {most:?}");
+    let &[run, lines, page, write, made] = &most[..] else {
+        panic!("four functions were called");
     };
     // A search of 28 halvings, each with a frame, cannot take less than 2,000 bytes. A writer
     // searches nothing; the lesson and other sessions were written, to the last event.
-    assert!([run, lines].iter().all(|taken| (2_000..10_000).contains(taken)), "{most:?}");
+    assert!([run, lines, page].iter().all(|taken| (2_000..10_000).contains(taken)), "{most:?}");
     assert!((1..10_000).contains(&write) && made > 10, "{most:?}");
 }
 

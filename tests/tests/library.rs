@@ -1,4 +1,4 @@
-//! The proved library's five functions beside this implementation: every status, every
+//! The proved library's six functions beside this implementation: every status, every
 //! length and every byte of a lent output, every double. The archive's folder is named by
 //! IRGA_LIBRARY when the tests are built.
 
@@ -7,10 +7,11 @@ use std::thread;
 
 use irga_tests::engine::Answer;
 use irga_tests::file::{self, Outcome, Session, LINE_ROOM, RECORD_BYTES};
-use irga_tests::harness::{Campaign, Count};
+use irga_tests::harness::{check_page, Campaign, Count};
 use irga_tests::hostile::{self, OwedPlan};
 use irga_tests::lesson;
 use irga_tests::library;
+use irga_tests::page::{self, by_hand};
 use irga_tests::random::Random;
 use irga_tests::sessions::{self, PROFILES};
 
@@ -70,24 +71,43 @@ fn wrong_lines_are_caught() {
     }
 }
 
-/// Both runs into outputs of one length, full of the same old bytes.
-fn assert_same(file: &[u8], length: usize, ours: Run, theirs: Run) {
+/// Both calls into outputs of one length, full of the same old bytes.
+fn assert_same(
+    what: &str,
+    length: usize,
+    ours: impl Fn(&mut [u8]) -> Outcome,
+    theirs: impl Fn(&mut [u8]) -> Outcome,
+) {
     let old: Vec<u8> = (0..length).map(|at| (at * 151 + 90) as u8).collect();
     let (mut expected, mut given) = (old.clone(), old);
-    assert_eq!(theirs(file, &mut given), ours(file, &mut expected), "output of {length} bytes");
-    assert!(expected == given, "an output of {length} bytes has other bytes");
+    assert_eq!(theirs(&mut given), ours(&mut expected), "{what}, output of {length} bytes");
+    assert!(expected == given, "{what}, an output of {length} bytes has other bytes");
+}
+
+fn assert_same_page(file: &[u8], every: u32, length: usize) {
+    let what = format!("page, N {every}");
+    let theirs = |out: &mut [u8]| library::page(file, every, out);
+    assert_same(&what, length, |out| page::page(file, every, out), theirs);
 }
 
 /// No room at all, a byte short of enough, enough, a byte more, and plenty.
 fn assert_same_at_each_length(file: &[u8]) {
     let events = Session::open(file).map_or(2, |session| session.events.len());
-    let functions: [(usize, Run, Run); 2] =
-        [(RECORD_BYTES, file::run, library::run), (LINE_ROOM, file::lines, library::lines)];
-    for (room, ours, theirs) in functions {
+    let lengths = |room: usize| {
         let enough = room * events;
-        for length in [0, enough.saturating_sub(1), enough, enough + 1, enough + 1_000] {
-            assert_same(file, length, ours, theirs);
+        [0, enough.saturating_sub(1), enough, enough + 1, enough + 1_000]
+    };
+    let functions: [(&str, usize, Run, Run); 2] = [
+        ("run", RECORD_BYTES, file::run, library::run),
+        ("lines", LINE_ROOM, file::lines, library::lines),
+    ];
+    for (name, room, ours, theirs) in functions {
+        for length in lengths(room) {
+            assert_same(name, length, |out| ours(file, out), |out| theirs(file, out));
         }
+    }
+    for length in lengths(2 * page::LINE_BYTES) {
+        assert_same_page(file, 3, length);
     }
 }
 
@@ -315,4 +335,64 @@ fn the_longest_plan() {
     lesson.sheets.push(lesson.sheets[0]);
     let plan = OwedPlan { records: lesson.records(), room: 100, status: 14 };
     assert_eq!(plan.check(library::write), Ok(()));
+}
+
+/// Invented sessions, and such whose figures are hard to round, under every N that matters.
+#[test]
+fn pages_are_the_same_bytes() {
+    let campaign = campaign(0x6276);
+    let met = campaign.against_page(&library::page).unwrap_or_else(|why| panic!("{why}"));
+    println!("{met}");
+    let rare = met.rarer_than(campaign.sessions / 1_000);
+    assert!(rare.is_empty(), "{rare:?}");
+}
+
+#[test]
+fn pages_worked_out_by_hand() {
+    for owed in by_hand::pages() {
+        assert_eq!(check_page(&owed, &library::page), Ok(()));
+    }
+}
+
+/// More samples than lines under any header, every number of these, and outputs far too long.
+#[test]
+fn every_number_of_lines_under_a_header() {
+    let mut session = by_hand::longest();
+    session.events.truncate(1_004);
+    let file = session.to_bytes();
+    for every in 0..=1_002 {
+        assert_same_page(&file, every, 2 * page::LINE_BYTES * 1_003);
+    }
+    for every in [1, 999, 1_000] {
+        assert_same_page(&file, every, 5_000_000);
+    }
+}
+
+/// The greatest length that include/irga.h has, a byte less and a byte more.
+#[test]
+fn the_longest_page() {
+    let file = by_hand::longest().to_bytes();
+    for (length, status, written) in
+        [(394_053, 17, 0), (394_054, 0, 394_054), (394_055, 0, 394_054)]
+    {
+        let outcome = library::page(&file, 1, &mut vec![0; length]);
+        assert_eq!(outcome, Outcome { status, written });
+        assert_same_page(&file, 1, length);
+        assert_same_page(&file, 999, length);
+    }
+}
+
+/// Files that are wrong in one thing, and files of no header at all, under N of every kind.
+#[test]
+fn pages_of_hostile_files() {
+    let spoilt = hostile::bits_that_must_be_zero().into_iter().map(|spoilt| spoilt.file);
+    let lesson = lesson::session().to_bytes();
+    let cut = [0, 1, 15, 16, 17, lesson.len() - 1].map(|length| lesson[..length].to_vec());
+    for file in spoilt.chain(hostile::wrapping_headers()).chain(cut) {
+        for every in [0, 1, 2, 40, 999, 1_000, u32::MAX] {
+            for length in [0, 72, 73, 145, 146, 100_000] {
+                assert_same_page(&file, every, length);
+            }
+        }
+    }
 }

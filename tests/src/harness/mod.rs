@@ -3,18 +3,20 @@
 //! Every byte of the lent output is compared, and every printed line. Since the
 //! answers are then the same, the exact ledger is walked over ours: demand 3's
 //! distances are checked on each session too. `plans` does the same for a writer of session
-//! files.
+//! files, and `pages` for a writer of pages.
 
+mod pages;
 mod plans;
 mod tally;
 
+pub use pages::check_page;
 pub use tally::Tally;
 
-use std::ffi::OsString;
+use std::ffi::{OsStr, OsString};
 use std::fs;
 use std::io::Write;
 use std::path::{Path, PathBuf};
-use std::process::{Command, Stdio};
+use std::process::{Command, Output, Stdio};
 use std::thread;
 
 use crate::file::{self, Outcome, Session, LINE_ROOM, RECORD_BYTES};
@@ -59,6 +61,27 @@ impl Executable {
         Executable { path: Executable::under_test().path.with_file_name(name) }
     }
 
+    /// Runs it to its end with arguments and an input: what it printed, and what it said on
+    /// standard error.
+    pub fn run<A: AsRef<OsStr>>(&self, arguments: &[A], input: &[u8]) -> Result<Output, String> {
+        let fault = |what: &str, why: std::io::Error| format!("cannot {what}: {why}");
+        let mut child = Command::new(&self.path)
+            .args(arguments)
+            .stdin(Stdio::piped())
+            .stdout(Stdio::piped())
+            .stderr(Stdio::piped())
+            .spawn()
+            .map_err(|why| fault("start the program", why))?;
+        let mut standard_input = child.stdin.take().ok_or("no standard input")?;
+        let input = input.to_vec();
+        // A program may print before it has read all, or stop reading at its limit:
+        // the writer has a thread of its own, and a closed pipe is no fault.
+        let writer = thread::spawn(move || standard_input.write_all(&input).is_ok());
+        let output = child.wait_with_output().map_err(|why| fault("wait", why))?;
+        writer.join().map_err(|_| "the writer failed".to_string())?;
+        Ok(output)
+    }
+
     fn named(path: Option<OsString>) -> Result<Executable, &'static str> {
         let path = path.filter(|path| !path.is_empty()).ok_or(
             "no program to compare with: set IRGA_PROGRAM to the full path of target/bin/irga, \
@@ -70,23 +93,12 @@ impl Executable {
 
 impl Program for Executable {
     fn print(&mut self, input: &[u8]) -> Result<Vec<u8>, String> {
-        let fault = |what: &str, why: std::io::Error| format!("cannot {what}: {why}");
-        let mut child = Command::new(&self.path)
-            .stdin(Stdio::piped())
-            .stdout(Stdio::piped())
-            .spawn()
-            .map_err(|why| fault("start the program", why))?;
-        let mut standard_input = child.stdin.take().ok_or("no standard input")?;
-        let input = input.to_vec();
-        // A program may print before it has read all, or stop reading at its limit:
-        // the writer has a thread of its own, and a closed pipe is no fault.
-        let writer = thread::spawn(move || standard_input.write_all(&input).is_ok());
-        let output = child.wait_with_output().map_err(|why| fault("wait", why))?;
-        writer.join().map_err(|_| "the writer failed".to_string())?;
-        if !output.status.success() {
-            return Err(format!("the program ended with {}", output.status));
+        let Output { status, stdout, stderr } = self.run::<&OsStr>(&[], input)?;
+        if !status.success() {
+            let said = String::from_utf8_lossy(&stderr);
+            return Err(format!("the program ended with {status}: {said}"));
         }
-        Ok(output.stdout)
+        Ok(stdout)
     }
 }
 

@@ -15,7 +15,7 @@ impl Campaign {
     /// Compares a writer with this implementation, byte by byte, and what an engine makes of
     /// the files that it writes.
     pub fn against_writer(&self, write: Writer, run: &mut dyn Engine) -> Result<Tally, String> {
-        let mut met = Tally::default();
+        let mut met = Tally::of_plans();
         for number in 0..self.sessions {
             let planned = plans::planned(self.seed, number);
             let spoilt = faults::spoilt(!self.seed, number);

@@ -1,4 +1,4 @@
-//! What a campaign over plans has met, and what it has to meet.
+//! What a campaign has met, and what it has to meet; here the one over plans.
 
 use std::collections::{BTreeMap, BTreeSet};
 use std::fmt;
@@ -9,9 +9,11 @@ use crate::plan::Plan;
 use crate::sessions::faults::Fault;
 
 /// How often a campaign met each thing, by its name.
-#[derive(Clone, Debug, Default)]
+#[derive(Clone, Debug)]
 pub struct Tally {
     met: BTreeMap<String, u64>,
+    /// Names of all that it has to meet.
+    owed: Vec<String>,
 }
 
 impl fmt::Display for Tally {
@@ -21,14 +23,22 @@ impl fmt::Display for Tally {
 }
 
 impl Tally {
-    fn meet(&mut self, name: String) {
+    pub(super) fn owing(owed: Vec<String>) -> Tally {
+        Tally { met: BTreeMap::new(), owed }
+    }
+
+    pub(super) fn of_plans() -> Tally {
+        Tally::owing(owed_names())
+    }
+
+    pub(super) fn meet(&mut self, name: String) {
         *self.met.entry(name).or_default() += 1;
     }
 
-    /// What a campaign has to meet and has met less often than this: agreement over plans says
-    /// little about anything that does not occur in them.
+    /// What a campaign has to meet and has met less often than this: agreement over plans or
+    /// pages says little about anything that does not occur in them.
     pub fn rarer_than(&self, least: u64) -> Vec<String> {
-        let counts = owed_names().into_iter().map(|name| (self.met.get(&name).copied(), name));
+        let counts = self.owed.iter().map(|name| (self.met.get(name).copied(), name));
         let rare = counts.filter(|(count, _)| count.unwrap_or(0) < least.max(1));
         rare.map(|(count, name)| format!("{name}: {}", count.unwrap_or(0))).collect()
     }
@@ -111,7 +121,7 @@ const SHEET_FIELDS: [usize; 5] = [0, 4, 8, 12, 16];
 const RAW_FIELD: usize = 4;
 const EVENT_ENDS: [usize; 4] = [0, EVENTS_LIMIT - 1, EVENTS_LIMIT, EVENTS_LIMIT + 1];
 
-const ROOMS: [&str; 6] = [
+pub(super) const ROOMS: [&str; 6] = [
     "no buffer",
     "buffer shorter by more than a byte",
     "buffer a byte too short",
@@ -120,13 +130,14 @@ const ROOMS: [&str; 6] = [
     "buffer longer by more than a byte",
 ];
 
-fn room_name(room: usize, file: usize) -> &'static str {
+/// A buffer of so much room beside what is to be put there.
+pub(super) fn room_name(room: usize, bytes: usize) -> &'static str {
     match room {
         0 => ROOMS[0],
-        _ if room + 1 < file => ROOMS[1],
-        _ if room < file => ROOMS[2],
-        _ if room == file => ROOMS[3],
-        _ if room == file + 1 => ROOMS[4],
+        _ if room + 1 < bytes => ROOMS[1],
+        _ if room < bytes => ROOMS[2],
+        _ if room == bytes => ROOMS[3],
+        _ if room == bytes + 1 => ROOMS[4],
         _ => ROOMS[5],
     }
 }
@@ -168,7 +179,7 @@ fn alone_name(fault: Fault) -> String {
     format!("records, {fault:?} alone")
 }
 
-/// Names of all that a campaign has to meet.
+/// Names of all that a campaign over plans has to meet.
 fn owed_names() -> Vec<String> {
     let mut names: Vec<String> =
         [0, 14, 15].map(|status| format!("plan, status {status}")).to_vec();

@@ -176,7 +176,8 @@ impl<'a> Author<'a> {
     fn over_range(&mut self, sheet: &Sheet, air: &Air) -> i64 {
         let beyond = self.random.pick(&[1, 1, 2, 1_000]);
         let above = rules::SIGNAL_LIMIT + beyond;
-        let within_reach = self.raw_of(sheet, air, above).is_some_and(rules::raw_within_limits);
+        let raw = raw_of(&self.state, sheet, air, above);
+        let within_reach = raw.is_some_and(rules::raw_within_limits);
         if within_reach && self.random.percent(90) {
             above
         } else {
@@ -197,22 +198,6 @@ impl<'a> Author<'a> {
             1 => (self.random.between(-2_000, 2_000), 0),
             _ => (self.random.between(-2, 1), self.random.between(-1, 1)),
         }
-    }
-
-    /// The raw signal that is read at this signal or nearly so, in the mode that stands;
-    /// nothing if there is no reference signal.
-    fn raw_of(&self, sheet: &Sheet, air: &Air, target: i64) -> Option<i64> {
-        let v = match self.state.mode {
-            Mode::Absolute => target,
-            Mode::Reference { cylinder, e } => {
-                let r = rules::reference_signal(sheet, cylinder, &air.with_vapour(e)).ok()?;
-                let (above_r, k) = (i128::from(target - r), i128::from(sheet.k));
-                let v = rules::near(above_r * k, k - i128::from(r));
-                v.clamp(-1_000_000_000, 1_000_000_000) as i64
-            }
-        };
-        let unit = i128::from(rules::SPAN_UNIT);
-        Some(rules::near(i128::from(v) * unit, i128::from(self.state.s)) as i64 + self.state.q)
     }
 
     /// Holds a raw signal within its limits, or lets it go one beyond.
@@ -246,7 +231,7 @@ impl<'a> Author<'a> {
         } else {
             (self.target(sheet, air), 0)
         };
-        match self.raw_of(sheet, air, target) {
+        match raw_of(&self.state, sheet, air, target) {
             Some(raw) => self.held(raw + beside),
             None => self.any_raw(),
         }
@@ -298,7 +283,23 @@ impl<'a> Author<'a> {
     }
 }
 
-fn fields(air: &Air) -> (u32, u32, u32) {
+/// The raw signal that is read at this signal or nearly so, in the mode that stands; nothing if
+/// there is no reference signal.
+pub(super) fn raw_of(state: &State, sheet: &Sheet, air: &Air, target: i64) -> Option<i64> {
+    let v = match state.mode {
+        Mode::Absolute => target,
+        Mode::Reference { cylinder, e } => {
+            let r = rules::reference_signal(sheet, cylinder, &air.with_vapour(e)).ok()?;
+            let (above_r, k) = (i128::from(target - r), i128::from(sheet.k));
+            let v = rules::near(above_r * k, k - i128::from(r));
+            v.clamp(-1_000_000_000, 1_000_000_000) as i64
+        }
+    };
+    let unit = i128::from(rules::SPAN_UNIT);
+    Some(rules::near(i128::from(v) * unit, i128::from(state.s)) as i64 + state.q)
+}
+
+pub(super) fn fields(air: &Air) -> (u32, u32, u32) {
     (air.p as u32, air.t as u32, air.e as u32)
 }
 

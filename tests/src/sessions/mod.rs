@@ -2,12 +2,13 @@
 //! them, signals over range by every ground, noise around zero, hostile kinds, padding and
 //! fields, damaged headers and lengths, long integrations, and lists with hardly an
 //! accepted event. `plans` and `faults` invent what a writer of session files is
-//! given.
+//! given, and `pages` has sessions whose figures are hard to round.
 
 mod author;
 mod damage;
 pub mod faults;
 mod numbers;
+pub mod pages;
 pub mod plans;
 
 use crate::file::{Session, EVENTS_LIMIT};
@@ -139,6 +140,6 @@ pub fn lent_output(random: &mut Random, answers_bytes: usize) -> Vec<u8> {
 }
 
 /// What a lent output holds before a call.
-fn old_bytes(random: &mut Random, length: usize) -> Vec<u8> {
+pub fn old_bytes(random: &mut Random, length: usize) -> Vec<u8> {
     (0..length).map(|_| random.bits() as u8).collect()
 }

@@ -123,7 +123,8 @@ fn the_trial_has_two_signs_and_is_proved() {
 }
 
 /// Every place in the crates that divides, with its signs. None of them but `quotient` rounds: they
-/// test e by P / 10, halve the stretch of a search, and take numbers, records and digits apart.
+/// test e by P / 10, halve the stretch of a search, take numbers, records and digits apart, and
+/// count the header lines of a page.
 /// A new one is to be looked at, and put here.
 #[test]
 fn nothing_else_rounds() {
@@ -133,12 +134,16 @@ fn nothing_else_rounds() {
         ("fields::low", 1),
         ("fields::low_word", 1),
         ("fields::u32_bytes", 3),
+        ("figures::put_hundredths", 1),
+        ("figures::put_pointed", 4),
         ("layout::records::event_at", 1),
         ("layout::records::put_event", 1),
         ("packing::put_records", 1),
         ("packing::write_records", 2),
+        ("page::length_of", 1),
         ("reference::search", 1),
         ("rounding::quotient", 1),
+        ("rows::put_header_due", 1),
         ("sheets::find_sheet", 1),
         ("text::digits", 1),
         ("text::put_decimal", 2),

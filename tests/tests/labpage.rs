@@ -8,6 +8,7 @@ use std::os::unix::ffi::OsStrExt;
 use std::path::{Path, PathBuf};
 use std::process::{Command, Output, Stdio};
 
+use irga_tests::figures::in_one_line;
 use irga_tests::file::{self, Session};
 use irga_tests::harness::Executable;
 use irga_tests::hostile;
@@ -19,6 +20,8 @@ const BAD_ARGUMENT: &str =
     "labpage: the one argument is the number of sample lines under a header, 1 to 999\n";
 const NO_SESSION: &str = "labpage: the input is not a session file\n";
 const NOT_WRITTEN: &str = "labpage: the page could not be written";
+
+const README: &str = include_str!("../../README.md");
 
 fn program() -> Executable {
     Executable::beside("labpage")
@@ -46,6 +49,13 @@ fn assert_page(arguments: &[&str], every: usize, input: &[u8]) -> Option<usize> 
     let lengths = [owed[0].len(), printed.len()];
     assert!(printed == owed[0], "{arguments:?}, pages of {lengths:?} bytes: {differs:?}");
     samples.map(|samples| samples.len())
+}
+
+#[test]
+fn the_messages_that_the_readme_quotes() {
+    for message in [BAD_ARGUMENT, NO_SESSION] {
+        assert!(in_one_line(README).contains(&format!("`{}`", message.trim_end())), "{message}");
+    }
 }
 
 fn lesson_file() -> PathBuf {

@@ -8,7 +8,7 @@ use irga_tests::file::{self, EventRecord, Session};
 use irga_tests::harness::SESSIONS;
 use irga_tests::hostile;
 use irga_tests::rules::{self, Air, Refusal};
-use irga_tests::{ledger, lesson};
+use irga_tests::{ledger, lesson, page};
 
 const README: &str = include_str!("../../README.md");
 const SPEED: &str = include_str!("../../docs/SPEED.md");
@@ -81,13 +81,43 @@ fn lengths_in_bytes() {
         format!("| event count u32, 0 to {events} |"),
         format!("| event offset u32, {header} + {record} × sheet count |"),
         format!("{answers} bytes of output are enough for any session, {lines} for its lines,"),
-        format!("and {longest} for any file that is written."),
+        format!(
+            "{} for its page, and {longest} for any file that is written.",
+            number(page::LONGEST)
+        ),
+        format!("shorter than the page, {} × its lines |", page::LINE_BYTES),
+        format!("lend more; {} × event count is enough |", 2 * page::LINE_BYTES),
+        format!("no page is longer than {} bytes", number(page::LONGEST)),
         format!("`irga_write` takes up to {sheets} sheets and {events} events and"),
         format!("than the file to be written, {header} + {record} × sheets + {record} × events |"),
         format!("shorter than {record} × event count, for the lines {line} × event count |"),
     ] {
         assert_says(&sentence);
     }
+}
+
+/// The beginning of the lesson's page, as it is printed, and the columns of its lines.
+#[test]
+fn the_page_of_the_lesson() {
+    let (every, lines) = (4, 11);
+    let command = format!("target/bin/labpage {every} < examples/lesson.session | head -n {lines}");
+    let (_, after) = README.split_once(&command).expect("the command");
+    assert_says(&format!("with a header line at every {every} samples:"));
+    let text = page::text(&page::samples(&lesson::session()), every);
+    let begin: String = text.split_inclusive('\n').take(lines).collect();
+    let (_, shown) = after.split_once("samples:\n\n```\n").expect("the page");
+    assert!(shown.starts_with(&format!("{begin}```\n")), "README.md has another page");
+    let [ordinal, value, ..] = page::COLUMNS;
+    assert_says(&format!(
+        "A page has {} columns: {ordinal} for the event's ordinal in the session, from 1, refused \
+         events counted, then {value} each for wet, dry,",
+        page::WIDTH
+    ));
+    let (low, high) = (page::EVERY.start(), page::EVERY.end());
+    assert_says(&format!("stand under a header line, {low} to {high} in at most three digits,"));
+    assert_says(&format!(
+        "| 16 | the number of sample lines under a header line is outside {low} to {high} |"
+    ));
 }
 
 /// What examples/plan.c prepares: document 01's figures are those of `c_programs`.
@@ -415,11 +445,13 @@ fn refusals_and_their_order() {
         (Refusal::OutputTooShort, "the lent output is shorter"),
         (Refusal::TooMany, &format!("more than {sheets} sheets or {events} events")),
         (Refusal::NoRoom, "the lent buffer is shorter than the file to be written,"),
+        (Refusal::HeaderInterval, "the number of sample lines under a header line is outside"),
+        (Refusal::PageTooLong, "the lent buffer is shorter than the page,"),
     ] {
         assert_says(&format!("| {} | {words}", refusal.number()));
     }
     assert_says("the first in this order is given: 11, 1, 2, 10, 6, 3, 4, 5, 9, 7, 8. 12 and 13");
-    assert_says("14, 11 and 15, in this order, what is to be written:");
+    assert_says("14, 11 and 15, in this order, what is to be written; 12, 16 and 17, in this order, a page:");
 }
 
 #[test]
@@ -447,7 +479,9 @@ fn distances_from_the_exact_equation() {
 fn sessions_and_versions_of_the_gate() {
     let sessions = number(SESSIONS);
     assert_says(&format!("which go through {sessions} sessions with the proved program"));
-    assert_says(&format!("and through {sessions} twice with the library"));
+    assert_says(&format!(
+        "and through {sessions} three times with the library, as answers, as lines and as pages,"
+    ));
     assert_says(&format!("and hand it {sessions} plans and {sessions} with faults to write,"));
     assert!(GATE.contains(&format!("\nexport IRGA_SESSIONS={SESSIONS}\n")));
     assert_says(&format!("`cargo` (Rust {} or later)", env!("CARGO_PKG_RUST_VERSION")));

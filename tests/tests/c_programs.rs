@@ -178,6 +178,48 @@ fn all_six_functions_link_from_c_and_from_cpp() {
     }
 }
 
+/// Prints the page of standard input, so many lines under a header, from a buffer that is given all or
+/// but a few of its bytes: PAGE N FEWER. Its exit status is that of irga_page.
+const PAGE: &str = r#"
+#include <stdio.h>
+#include <stdlib.h>
+#include "irga.h"
+static uint8_t file[IRGA_FILE_MAX + 1], page[IRGA_PAGE_MAX];
+int main(int count, char **words) {
+    size_t length = fread(file, 1, sizeof file, stdin), written = 1, room = sizeof page;
+    uint32_t every = count > 2 ? (uint32_t)strtoul(words[1], NULL, 10) : 0;
+    uint8_t status;
+    if (count > 2)
+        room -= strtoul(words[2], NULL, 10);
+    status = irga_page(file, length, every, page, room, &written);
+    fwrite(page, 1, written, stdout);
+    return status;
+}
+"#;
+
+#[test]
+fn pages_from_c_and_from_cpp() {
+    let path = scratch("longest-page.session");
+    let longest = page::by_hand::longest();
+    fs::write(&path, longest.to_bytes()).expect("a written file");
+    let text = |every: usize| page::text(&page::samples(&longest), every).into_bytes();
+    for (compiler, name) in [(C, "page.c"), (CPP, "page.cpp")] {
+        let program = link(compiler, name, PAGE);
+        for (every, fewer, status, owed) in [
+            ("1", "0", 0, text(1)),
+            ("40", "0", 0, text(40)),
+            ("999", "0", 0, text(999)),
+            ("1", "1", 17, Vec::new()),
+            ("0", "0", 16, Vec::new()),
+            ("1000", "1", 16, Vec::new()),
+        ] {
+            let output = run(&program, &[every, fewer].map(Path::new), Some(&path));
+            assert_eq!(output.status.code(), Some(status), "{name} {every} {fewer}");
+            assert!(output.stdout == owed, "{name} {every} {fewer}");
+        }
+    }
+}
+
 /// A program of examples/, compiled for one test.
 fn example(name: &str, test: &str) -> PathBuf {
     let source = fs::read_to_string(repository().join(format!("examples/{name}.c")));

@@ -104,22 +104,28 @@ fn forty_lines_without_an_argument() {
     }
 }
 
-/// Every N as it is written, and with zeros before it as far as three digits go: they make no
-/// number of another base. Of 1,000 samples each N makes another page.
+/// The longest argument that the program reads.
+const WORD: usize = 16;
+
+/// Every N as it is written, and with zeros before it as far as a word goes: they make no number of
+/// another base. Of 1,000 samples each N makes another page.
 #[test]
 fn every_number_of_lines_under_a_header() {
     let file = samples(1_000);
-    for (every, width) in (1..=999).flat_map(|every| [1, 2, 3].map(|width| (every, width))) {
-        let argument = format!("{every:0width$}");
-        if argument.len() == width {
-            assert_eq!(assert_page(&[&argument], every, &file), Some(1_000));
+    for every in 1..=999 {
+        for width in [0, 1 + every % WORD] {
+            assert_eq!(assert_page(&[&format!("{every:0width$}")], every, &file), Some(1_000));
         }
+    }
+    for every in [1, 40, 999] {
+        assert_eq!(assert_page(&[&format!("{every:0WORD$}")], every, &file), Some(1_000));
     }
 }
 
 #[rustfmt::skip]
-const BAD_ARGUMENTS: [&str; 36] = [
-    "0", "00", "000", "1000", "0001", "0040", "00000000000000000001", "257000", "65537",
+const BAD_ARGUMENTS: [&str; 38] = [
+    "0", "00", "000", "1000", "01000", "10000", "0000000000000000", "00000000000000001",
+    "00000000000000000001", "257000", "65537",
     "4294967297", "18446744073709551617", "-1", "+1", "-0", "", " ", " 1", "1 ", "1\n", "\t1",
     "abc", "1e2", "4O", "0x1", "1.0", "1,0", "1_0", "I", "\u{661}", "\u{ff11}", "\u{b2}", "40%",
     "-", "--", "-h", "--help",

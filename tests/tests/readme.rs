@@ -114,7 +114,7 @@ fn the_page_of_the_lesson() {
         page::WIDTH
     ));
     let (low, high) = (page::EVERY.start(), page::EVERY.end());
-    assert_says(&format!("stand under a header line, {low} to {high} in at most three digits,"));
+    assert_says(&format!("stand under a header line, {low} to {high} in decimal digits,"));
     assert_says(&format!(
         "| 16 | the number of sample lines under a header line is outside {low} to {high} |"
     ));

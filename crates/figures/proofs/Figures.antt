@@ -1,18 +1,17 @@
 -- What holds of every figure (`EveryFigure`), and that texts of digits, signs and spaces have no other bytes. Assumes nothing.
-use Prim.Native.Nat.{ℕ, zero, suc, _+_, _-_, _/_, _%_, _<_, _≤_}
+use Prim.Native.Nat.{ℕ, zero, suc, _+_, _-_, _/_, _%_, _≤_}
 use native.Mathlib.Omega.{arith}
 use mathlib.Core.Bool.{Bool, true, false, cond}
 use mathlib.Core.List.{List, [], _∷_, _++_}
 use mathlib.Core.Path.{_≡_, refl, ap}
-use borrow.Author.Tests.{ltb-true, ltb-false}
+use borrow.Author.Tests.{ltb-true, ltb-false, le-ltb}
 use lib.Dec.{ltb}
-use lib.IntN.{ℤ, pos, negsuc, natAbs}
+use lib.IntN.{ℤ, pos, negsuc}
 use lib.ListN.{length, length-append}
 use Rattle.rounding.proofs.Nearest.{near-half}
 use Rattle.text.specs.Line.{decimalIn, decimal}
-use Rattle.text.proofs.Decimal.{one-to-twenty, one-digit, last-digit}
+use Rattle.text.proofs.Decimal.{one-digit}
 use Rattle.figures.specs.Figures.{spaces, right, hundredths, pointed, signedPointed, figure, Between, zeroFigure, EveryFigure}
-use Rattle.figures.proofs.Columns.{hundredths-most}
 
 -- ---- bytes between two numbers
 pub between-append : (low high : ℕ) (a b : List ℕ) → Between low high a → Between low high b → Between low high (a ++ b)
@@ -63,10 +62,22 @@ unsigned : (x : ℤ) → hundredths x ≡ pos 0 → figure x ≡ zeroFigure
 unfolding signedPointed pointed decimal
 unsigned x e = rw e
 
+-- no number is without a digit, and none from ten on has one alone
+some : (k n : ℕ) → 1 ≤ length (decimalIn (suc k) n)
+some k n = go (ltb n 10)
+  where
+    go : (t : Bool) → 1 ≤ length (cond t ((48 + n) ∷ []) (decimalIn k (n / 10) ++ ((48 + n % 10) ∷ [])))
+    go true = omega arith
+    go false = rw length-append (omega arith)
+
+two : (n : ℕ) → 10 ≤ n → 2 ≤ length (decimal n)
+unfolding decimal
+two n h = rw (le-ltb n 10 h, length-append) (omega (arith, some 18 (n / 10)))
+
 -- hundredths that read 0.00 are none
-none : (n : ℕ) → n < 1000000000000 → pointed n ≡ zeroFigure → n ≡ 0
+none : (n : ℕ) → pointed n ≡ zeroFigure → n ≡ 0
 unfolding pointed
-none n b e = go (ltb (n / 100) 10) refl
+none n e = go (ltb (n / 100) 10) refl
   where
     go : (t : Bool) → ltb (n / 100) 10 ≡ t → n ≡ 0
     go true t =
@@ -77,21 +88,18 @@ none n b e = go (ltb (n / 100) 10) refl
         let r : 48 + n % 10 ≡ 48 = cc in
         omega arith
     go false t =
-        let d = last-digit (n / 100) (ltb-false _ _ t) (omega arith) in
-        let l = rw (d, length-append, length-append) at (ap length e) in
-        absurd (omega (arith, l, one-to-twenty (n / 100 / 10) (omega arith) .0))
+        let l = rw length-append at (ap length e) in
+        absurd (omega (arith, l, two (n / 100) (ltb-false _ _ t)))
 
 -- no number without a sign starts with one
 unsigned-first : (s rest : List ℕ) → Between 48 57 s → 1 ≤ length s → s ++ rest ≡ 45 ∷ zeroFigure → ⊥
 unsigned-first [] rest f l e = omega arith
 unsigned-first (b ∷ s) rest f l e = let p : b ≡ 45 = cc in omega (arith, f .0)
 
-signed-never : (z : ℤ) → natAbs z < 1000000000000 → signedPointed z ≡ 45 ∷ zeroFigure → ⊥
-unfolding signedPointed pointed
-signed-never (pos n) b e =
-    unsigned-first (decimal (n / 100)) _ (between-decimal (omega arith) (omega arith) (n / 100)) (one-to-twenty (n / 100) (omega arith) .0) e
-signed-never (negsuc n) b e = let p : pointed (suc n) ≡ zeroFigure = cc in omega (arith, none (suc n) b p)
+signed-never : (z : ℤ) → signedPointed z ≡ 45 ∷ zeroFigure → ⊥
+unfolding signedPointed pointed decimal
+signed-never (pos n) e = unsigned-first (decimal (n / 100)) _ (between-decimal (omega arith) (omega arith) (n / 100)) (some 19 (n / 100)) e
+signed-never (negsuc n) e = let p : pointed (suc n) ≡ zeroFigure = cc in omega (arith, none (suc n) p)
 
 pub every-figure : EveryFigure
-every-figure x h =
-    record { half = near-half x 10000 (omega arith) .half; nothing = unsigned x; never = signed-never (hundredths x) (hundredths-most x h) }
+every-figure x = record { half = near-half x 10000 (omega arith) .half; nothing = unsigned x; never = signed-never (hundredths x) }

@@ -11,7 +11,7 @@ use Rattle.text.specs.Line.{decimal}
 abbrev pub spaces : ℕ → List ℕ
 spaces n = replicate n 32
 
--- text right-aligned in so many columns
+-- text right-aligned in so many columns; a longer one would stay whole, and `Wide` shows that no line of a page has one
 unfoldable pub right : ℕ → List ℕ → List ℕ
 right width s = spaces (width - length s) ++ s
 
@@ -42,18 +42,18 @@ abbrev pub Between : ℕ → ℕ → List ℕ → Type 0
 Between low high [] = Unit
 Between low high (b ∷ s) = (low ≤ b) × (b ≤ high) × Between low high s
 
--- ---- what holds of every figure, for values far beyond any that the engine has; `proofs/Figures.antt` proves it
+-- ---- what holds of every figure; `proofs/Figures.antt` proves it
 
 -- 0.00
 abbrev pub zeroFigure : List ℕ
 zeroFigure = 48 ∷ 46 ∷ 48 ∷ 48 ∷ []
 
--- it lies within half a hundredth of its value, so that its hundredths h have |2 (10^4 h − x)| ≤ 10^4; one that rounds to nothing is 0.00;
--- and −0.00 never appears
+-- its hundredths h lie within half a hundredth of its value, |2 (10^4 h − x)| ≤ 10^4; one that rounds to nothing is 0.00; and −0.00 never
+-- appears
 pub record FigureHolds (x : ℤ) : Type 0 where
   pub half : natAbs (pos 2 *ℤ (hundredths x *ℤ pos 10000 -ℤ x)) ≤ 10000
   pub nothing : hundredths x ≡ pos 0 → figure x ≡ zeroFigure
   pub never : figure x ≡ 45 ∷ zeroFigure → ⊥
 
 abbrev pub EveryFigure : Type 0
-EveryFigure = (x : ℤ) → natAbs x ≤ 9990000000000000 → FigureHolds x
+EveryFigure = (x : ℤ) → FigureHolds x

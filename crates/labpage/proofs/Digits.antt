@@ -11,12 +11,12 @@ use lib.ListN.{length, drop, getD, drop-of-length-le}
 use lib.Seq.{drop-cons}
 use Rattle.curve.specs.Limits.{within}
 use Rattle.curve.proofs.Within.{both, range}
-use Rattle.labpage.specs.Number.{follows, numberFrom, numberOf}
+use Rattle.labpage.specs.Number.{follows, numberFrom, numberSaid}
 
 pub record Reading (word : List ℕ) (n i : ℕ) : Type 0 where
   pub within : i ≤ length word
   pub small : n ≤ 999
-  pub whole : numberFrom n (drop i word) ≡ numberOf word
+  pub whole : numberFrom n (drop i word) ≡ numberSaid word
 
 pub begun : (word : List ℕ) → Reading word 0 0
 begun word = record { within = omega arith; small = omega arith; whole = refl }
@@ -36,8 +36,8 @@ module _ {word : List ℕ} {n i : ℕ} (r : Reading word n i) where
         let d = digit e in
         record { within = omega arith; small = omega arith; whole = rw add-one (rw (drop-cons word i 0 h, e) at (r .whole)) }
 
-    pub stopped : follows n (getD word i 0) ≡ false → 0 ≡ numberOf word
+    pub stopped : follows n (getD word i 0) ≡ false → 0 ≡ numberSaid word
     stopped e = rw (drop-cons word i 0 h, e) at (r .whole)
 
-  pub ended : length word ≤ i → n ≡ numberOf word
+  pub ended : length word ≤ i → n ≡ numberSaid word
   ended h = rw (drop-of-length-le word h) at (r .whole)

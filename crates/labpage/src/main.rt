@@ -2,14 +2,17 @@
 // lines under a header line, 40 without. What it cannot do it says in one line on standard error. `stdin` is a session of document 01's
 // cases in both modes, and `stdout` the page that the paper's values make.
 ghost use mathlib.Core.Path.{_≡_};
-ghost use Rattle.labpage.specs.Number.{numberOf, follows as Number·follows};
+ghost use Rattle.labpage.specs.Number.{chosenOf, numberSaid, follows as Number·follows};
 use curve::limits::within;
 use libc::STDERR_FILENO;
 use libc::STDIN_FILENO;
 use libc::STDOUT_FILENO;
 
 fn main() {
-    let every = wanted();
+    // Where there is no argument, or a longer one, nothing of the word counts.
+    let mut word = [0u8; 16];
+    let k = os::arg(1, &mut word);
+    let every = chosen(os::arg_count(), &word[..k]);
     if every == 0 {
         io::write_all(
             STDERR_FILENO,
@@ -34,23 +37,23 @@ fn main() {
     }
 }
 
-// How many sample lines are wanted under a header line: 0 where the arguments do not say it.
-fn wanted() -> u32 {
-    let count = os::arg_count();
+// How many sample lines are wanted under a header line, by the count of arguments, the program's own name among them, and the one after it:
+// 0 where they do not say it.
+fn chosen(count: usize, word: &[u8]) -> u32
+    ensures { λ r. ⌜ r ≡ chosenOf count (now (word .entry)) ⌝ }
+{
     if count < 2 {
         return 40;
     }
     if 2 < count {
         return 0;
     }
-    let mut word = [0u8; 3];
-    let n = os::arg(1, &mut word);
-    number(&word[..n])
+    number(word)
 }
 
 // What digits say, up to 999; of anything else 0.
 fn number(word: &[u8]) -> u32
-    ensures { λ r. ⌜ r ≡ numberOf (now (word .entry)) ⌝ }
+    ensures { λ r. ⌜ r ≡ numberSaid (now (word .entry)) ⌝ }
 {
     let mut n: u32 = 0;
     let mut i = 0;

@@ -53,7 +53,7 @@ fn assert_page(arguments: &[&str], every: usize, input: &[u8]) -> Option<usize> 
 
 #[test]
 fn the_messages_that_the_readme_quotes() {
-    for message in [BAD_ARGUMENT, NO_SESSION] {
+    for message in [BAD_ARGUMENT, NO_SESSION, &format!("{NOT_WRITTEN}: No space left on device")] {
         assert!(in_one_line(README).contains(&format!("`{}`", message.trim_end())), "{message}");
     }
 }

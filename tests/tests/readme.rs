@@ -103,13 +103,23 @@ fn the_page_of_the_lesson() {
     let command = format!("target/bin/labpage {every} < examples/lesson.session | head -n {lines}");
     let (_, after) = README.split_once(&command).expect("the command");
     assert_says(&format!("with a header line at every {every} samples:"));
-    let text = page::text(&page::samples(&lesson::session()), every);
+    let samples = page::samples(&lesson::session());
+    let first = samples[0];
+    let cylinder = first.cylinder.expect("a reference");
+    assert_says(&format!("The first sample is event {}, after load, zero, span,", first.ordinal));
+    assert_says(&format!(
+        "The reference cylinder has {} µmol/mol, so a wet value of {} has a `diff` of {}.",
+        cylinder / 1_000_000,
+        page::figure(first.wet),
+        page::figure(first.wet - cylinder)
+    ));
+    let text = page::text(&samples, every);
     let begin: String = text.split_inclusive('\n').take(lines).collect();
     let (_, shown) = after.split_once("samples:\n\n```\n").expect("the page");
     assert!(shown.starts_with(&format!("{begin}```\n")), "README.md has another page");
     let [ordinal, value, ..] = page::COLUMNS;
     assert_says(&format!(
-        "A page has {} columns: {ordinal} for the event's ordinal in the session, from 1, refused \
+        "A line has {} columns: {ordinal} for the event's ordinal in the session, from 1, refused \
          events counted, then {value} each for wet, dry,",
         page::WIDTH
     ));
@@ -479,8 +489,10 @@ fn distances_from_the_exact_equation() {
 fn sessions_and_versions_of_the_gate() {
     let sessions = number(SESSIONS);
     assert_says(&format!("which go through {sessions} sessions with the proved program"));
+    let pages = number(2 * SESSIONS);
     assert_says(&format!(
-        "and through {sessions} three times with the library, as answers, as lines and as pages,"
+        "and through {sessions} twice with the library, as answers and as lines, and through {pages} \
+         as pages,"
     ));
     assert_says(&format!("and hand it {sessions} plans and {sessions} with faults to write,"));
     assert!(GATE.contains(&format!("\nexport IRGA_SESSIONS={SESSIONS}\n")));
@@ -507,7 +519,7 @@ fn rate(name: &str) -> String {
 #[test]
 fn rates_are_those_of_the_page_on_speed() {
     assert_says(&format!(
-        "reads about {} samples a second in absolute mode and {} against a reference,",
+        "reads more than {} samples a second in absolute mode and {} against a reference,",
         rate("samples, absolute"),
         rate("samples against a reference")
     ));

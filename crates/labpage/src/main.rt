@@ -20,7 +20,7 @@ fn main() {
         );
         return;
     }
-    // One byte more than a session may have, so that a longer one is seen to be longer.
+    // Longer than any session, so that a longer input is seen to be longer.
     let mut input = [0u8; 65537];
     let n = io::read_full(STDIN_FILENO, &mut input);
     let mut text = [0u8; 394054];

@@ -65,8 +65,8 @@ pub fn put_ordinal(out: &mut [u8], at: usize, n: u64) -> usize
     put_decimal(out, past - digits(n), n)
 }
 
-// Puts a text. Columns are filled with spaces that stand in the program, and not one by one: a compiler makes a call of the C library of a
-// loop that fills, and a host without one could not link it.
+// Puts a text, which is to be a literal, as are the spaces that fill a column: of a copy of unknown length, and of a loop that fills, a
+// compiler makes a call of the C library, and a host without one could not link it.
 pub fn put_text(out: &mut [u8], at: usize, text: &[u8]) -> usize
     requires { ⌜ at + length (now text) ≤ length (now out) ⌝ }
     ensures { λ r. ⌜ Puts (now (out .entry)) at (now (text .entry)) (now (out .exit)) r ⌝ }

@@ -1,5 +1,5 @@
-// What is put of each event of a session file, in each form. The loop of `session` asks here, once for an event: another form that goes
-// by the event's ordinal and its line of the transcript is another case of `room_of` and `emit`.
+// What is put of each event of a session file whose answers are put, in each form. `outputs` asks here, once for an event: another form that
+// goes by the event's ordinal and its line of the transcript is another case of `room_of` and `emit`.
 ghost use mathlib.Core.Path.{_≡_};
 ghost use Prim.Native.Nat.{_+_, _≤_, _<_};
 ghost use lib.ListN.{length};

@@ -113,12 +113,11 @@ const WORD: usize = 16;
 fn every_number_of_lines_under_a_header() {
     let file = samples(1_000);
     for every in 1..=999 {
-        for width in [0, 1 + every % WORD] {
-            assert_eq!(assert_page(&[&format!("{every:0width$}")], every, &file), Some(1_000));
-        }
+        assert_eq!(assert_page(&[&every.to_string()], every, &file), Some(1_000));
     }
-    for every in [1, 40, 999] {
-        assert_eq!(assert_page(&[&format!("{every:0WORD$}")], every, &file), Some(1_000));
+    for (every, width) in [1, 8, 40, 999].into_iter().flat_map(|n| (2..=WORD).map(move |w| (n, w)))
+    {
+        assert_eq!(assert_page(&[&format!("{every:0width$}")], every, &file), Some(1_000));
     }
 }
 

@@ -337,10 +337,12 @@ fn the_longest_plan() {
     assert_eq!(plan.check(library::write), Ok(()));
 }
 
-/// Invented sessions, and such whose figures are hard to round, under every N that matters.
+/// Invented sessions, and such whose figures are hard to round, under every N that matters: a page
+/// takes 17 calls, so that a quarter of the sessions is enough.
 #[test]
 fn pages_are_the_same_bytes() {
-    let campaign = campaign(0x6276);
+    let all = campaign(0x6276);
+    let campaign = Campaign { sessions: all.sessions / 4, ..all };
     let met = campaign.against_page(&library::page).unwrap_or_else(|why| panic!("{why}"));
     println!("{met}");
     let rare = met.rarer_than(campaign.sessions / 1_000);

@@ -111,7 +111,7 @@ fn sessions_are_made_again() {
 /// Every status, N, buffer and figure, by our own pages.
 #[test]
 fn what_invented_sessions_reach() {
-    let met = campaign(5_000).against_page(&page).unwrap_or_else(|why| panic!("{why}"));
+    let met = campaign(2_000).against_page(&page).unwrap_or_else(|why| panic!("{why}"));
     println!("{met}");
     let rare = met.rarer_than(20);
     assert!(rare.is_empty(), "{rare:?}");

@@ -489,7 +489,7 @@ fn distances_from_the_exact_equation() {
 fn sessions_and_versions_of_the_gate() {
     let sessions = number(SESSIONS);
     assert_says(&format!("which go through {sessions} sessions with the proved program"));
-    let pages = number(2 * SESSIONS);
+    let pages = number(2 * (SESSIONS / 4));
     assert_says(&format!(
         "and through {sessions} twice with the library, as answers and as lines, and through {pages} \
          as pages,"

@@ -16,7 +16,7 @@ use Rattle.rules.specs.declared.Answer.{Answer}
 use Rattle.format.specs.Header.{eventCount, wellFormed}
 use Rattle.engine.specs.Transcript.{Line, recordOfLine, recordWith}
 use Rattle.forms.specs.declared.Form.{Form}
-use Rattle.session.specs.Run.{FillsAs}
+use Rattle.answers.specs.Run.{FillsAs}
 use Rattle.ledger.proofs.Fits.{Fit}
 use Rattle.doubles.specs.Doubles.{hostSample, hostArea, hostSampleIn, hostAreaIn}
 use Rattle.doubles.proofs.Laws.{is-whole}

@@ -17,7 +17,7 @@ use Rattle.format.specs.Header.{sheetCount, eventCount, firstEvent, wellFormed,
 use Rattle.entries.specs.Entries.{entryOf}
 use Rattle.forms.specs.declared.Form.{Form}
 use Rattle.session.specs.Transcript.{entriesOf, transcriptOf}
-use Rattle.session.specs.Run.{FillsAs}
+use Rattle.answers.specs.Run.{FillsAs}
 use Rattle.printing.specs.Text.{linesOf}
 
 -- the line is the transcript's line i, counted from 0; past the last one there is none
@@ -62,7 +62,7 @@ pub record FileHolds (file old : List ℕ) (status written : ℕ) (out : List �
   pub short : wellFormed file ≡ true → length old < 24 * eventCount file → Kept 13 old status written out
   pub long : wellFormed file ≡ true → 24 * eventCount file ≤ length old → Answered file old status written out
 
--- the claim: it holds of whatever a run returns and leaves (the contracts of `session::run::run` and `irga_run`), for any bytes whatever
+-- the claim: it holds of whatever a run returns and leaves (the contracts of `answers::run` and `irga_run`), for any bytes whatever
 abbrev pub EveryFile : Type 0
 EveryFile =
     (file old : List ℕ) → AreBytes file → (status written : ℕ) (out : List ℕ) → FillsAs Form.Records file old status written out

@@ -11,7 +11,7 @@ use Rattle.rules.specs.declared.Answer.{Answer}
 use Rattle.format.specs.Header.{eventCount, wellFormed}
 use Rattle.engine.specs.Transcript.{Line}
 use Rattle.forms.specs.declared.Form.{Form}
-use Rattle.session.specs.Run.{FillsAs}
+use Rattle.answers.specs.Run.{FillsAs}
 use Rattle.doubles.specs.declared.HostAnswer.{HostAnswer}
 use Rattle.doubles.specs.Doubles.{doubleOf, Whole, hostSampleIn, hostAreaIn}
 use Rattle.claims.specs.Claim.{LineIs}

@@ -2,17 +2,17 @@
 ghost use mathlib.Core.Path.{_≡_};
 ghost use lib.ListN.{getD};
 ghost use Rattle.forms.specs.declared.Form.{Form};
-ghost use Rattle.session.specs.Run.{FillsAs};
+ghost use Rattle.answers.specs.Run.{FillsAs};
 ghost use Rattle.packing.specs.Write.{FillsPacked};
 ghost use Rattle.page.specs.Page.{FillsPage};
 ghost use Rattle.doubles.specs.Doubles.{hostRefusal, hostValues, hostSampleIn, hostAreaIn};
+use answers::run;
 use doubles::HostAnswer;
 use doubles::answers::area_in;
 use doubles::answers::sample_in;
 use packing::write_records;
 use page::page;
 use printing::lines;
-use session::run::run;
 
 // Answers a whole session file into `out`: 0, or refusal 12 or 13, which leaves `out` as it was. `written` becomes the count of
 // bytes that it wrote, 0 with a refusal.

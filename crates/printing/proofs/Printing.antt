@@ -12,9 +12,9 @@ use Rattle.text.specs.Line.{lineRoom}
 use Rattle.format.specs.Header.{wellFormed}
 use Rattle.format.proofs.Shape.{shape}
 use Rattle.forms.specs.declared.Form.{Form}
-use Rattle.session.specs.Run.{FillsAs}
+use Rattle.answers.specs.Run.{FillsAs}
 use Rattle.printing.specs.Text.{refusedLine, linesOf, printedOf}
-use Rattle.session.proofs.Outcome.{status-0, served}
+use Rattle.answers.proofs.Outcome.{status-0, served}
 
 module _ (file : List ℕ) where
   pub prints-long : 65536 < length file → printedOf file ≡ refusedLine

@@ -8,7 +8,7 @@ use lib.ListN.{length}
 use Rattle.text.specs.Line.{lineOf}
 use Rattle.format.specs.Header.{wellFormed}
 use Rattle.forms.specs.declared.Form.{Form}
-use Rattle.session.specs.Run.{emittedOf}
+use Rattle.answers.specs.Run.{emittedOf}
 
 -- the lines of a well-formed file, ordinals from 1
 abbrev pub linesOf : List ℕ → List ℕ

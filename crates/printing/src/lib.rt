@@ -3,12 +3,12 @@ ghost use Prim.Native.Nat.{_≤_};
 ghost use lib.ListN.{length};
 ghost use Rattle.layout.specs.Lent.{Puts};
 ghost use Rattle.text.specs.Line.{lineRoom};
-ghost use Rattle.session.specs.Run.{FillsAs};
+ghost use Rattle.answers.specs.Run.{FillsAs};
 ghost use Rattle.printing.specs.Text.{refusedLine, printedOf};
+use answers::fill;
 use forms::Form;
 use layout::AnswerRecord;
 use layout::Filled;
-use session::run::fill;
 use text::put_line;
 
 // Puts what the program prints for a file at the start of out, which has room for the longest line of each of 2,700 events, and

@@ -1,2 +1,2 @@
 pub mod Transcript
-pub mod Run
+pub mod Over

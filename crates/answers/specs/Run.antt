@@ -2,22 +2,13 @@
 use Prim.Native.Nat.{ℕ, _*_}
 use mathlib.Core.Bool.{cond}
 use mathlib.Core.List.{List}
-use mathlib.Core.Path.{_≡_}
 use lib.Dec.{leb}
 use lib.ListN.{length}
-use Rattle.layout.specs.Lent.{Puts, Fills}
-use Rattle.engine.specs.Transcript.{Line}
+use Rattle.layout.specs.Lent.{Fills}
 use Rattle.format.specs.Header.{wellFormed, eventCount}
 use Rattle.forms.specs.declared.Form.{Form}
 use Rattle.forms.specs.Forms.{roomOf, emittedFrom}
-use Rattle.outputs.specs.declared.Output.{Output}
-use Rattle.outputs.specs.Outputs.{samplesIn, putFrom}
 use Rattle.session.specs.Transcript.{transcriptOf}
-
--- a run over the lines of a transcript: what is put of them stands at the start of a buffer that was `old`, ordinals from 1, and the samples
--- that they accept are counted
-abbrev pub RunsOver : Output → List Line → List ℕ → List ℕ → ℕ → ℕ → Type 0
-RunsOver output ls old out samples written = Puts old 0 (putFrom output 0 1 ls) out written × (samples ≡ samplesIn ls)
 
 -- what is put of a file: a piece for each line of its transcript, ordinals from 1
 abbrev pub emittedOf : Form → List ℕ → List ℕ

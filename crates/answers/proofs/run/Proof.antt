@@ -1,7 +1,7 @@
--- `session::run::run` meets its contract: it is `fill` with that form. Assumes nothing.
+-- `answers::run` meets its contract: it is `fill` with that form. Assumes nothing.
 use borrow.Author.Needs.{needs}
-use Rattle.session.proofs.run.run.Statement.{statement}
-use Rattle.session.proofs.run.run.Tie as tie
+use Rattle.answers.proofs.run.Statement.{statement}
+use Rattle.answers.proofs.run.Tie as tie
 
 returns : tie.Need-returns
 returns c = c .before .before .fill .ensures

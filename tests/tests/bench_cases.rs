@@ -111,14 +111,37 @@ fn span_to_the_cylinder() {
     assert_eq!(set(90_000_000), refused(3, 5));
 }
 
+/// As document 02's R-5 has them.
 #[test]
 fn area_of_three_readings_and_of_one() {
     let sheets = [bench::sheet()];
     let start = [LOAD, REFERENCE, Event::Start];
     let three = [&start[..], &[sample(0), sample(10_000_000), sample(0), Event::Area]].concat();
-    assert_eq!(last_answer(&sheets, &three), accepted(9, 3, 2_776_320_000, 0));
+    assert_eq!(last_answer(&sheets, &three), accepted(9, 3, 776_320_000, 0));
     let one = [&start[..], &[sample(10_000_000), Event::Stop, Event::Area]].concat();
-    assert_eq!(last_answer(&sheets, &one), accepted(9, 1, 2 * 1_388_160_000, 0));
+    assert_eq!(last_answer(&sheets, &one), accepted(9, 1, 0, 0));
+}
+
+/// Document 02's R-5: a steady reading of 1,000 µmol/mol over three samples, where the class
+/// expects none. Then a step up and down again: two readings have the area of their step, and
+/// back where it began the three have twice that of the one that stands out. Then steady
+/// readings below zero, and a straight fall from −15 to −45, which has last less first.
+#[test]
+fn a_flat_line_has_no_area() {
+    const START: Event = Event::Start;
+    const AREA: Event = Event::Area;
+    let flat = [START, sample(0), AREA, sample(0), AREA, sample(0), AREA];
+    let step = [START, sample(0), sample(10_000_000), AREA, sample(0), AREA];
+    let low = [START, sample(-1), sample(-1), sample(-1), sample(-1), AREA];
+    let fall = [START, sample(-1), sample(-2), sample(-3), AREA];
+    let events = [&[LOAD, REFERENCE][..], &flat, &step, &[Event::Absolute], &low, &fall].concat();
+    let text = printed(&[bench::sheet()], &events);
+    let areas: Vec<&str> =
+        text.lines().filter_map(|line| line.split_once(" 9 0 ")).map(|(_, area)| area).collect();
+    assert_eq!(
+        areas,
+        ["1 0 0", "2 0 0", "3 0 0", "2 388160000 0", "3 776320000 0", "4 0 0", "3 -30 0"]
+    );
 }
 
 #[test]
@@ -166,7 +189,7 @@ fn around_zero_through_the_program() {
 }
 
 /// Noise on both sides of zero: its readings add up to nothing, and all are counted. The area
-/// is 2 × 15 × (−3 + 2 − 1 + 4 − 2) − 4 × 15 × (−3 − 2).
+/// is 2 × 15 × (2 − 1 + 4 − 2) − 4 × 15 × (−3 − 2).
 #[test]
 fn noise_around_zero_is_counted() {
     let sheets = [bench::sheet()];
@@ -174,7 +197,7 @@ fn noise_around_zero_is_counted() {
     let wet = noise.map(|event| last_answer(&sheets, &[LOAD, event]).x);
     assert_eq!((wet, wet.iter().sum()), ([-45, 30, -15, 60, -30], 0));
     let events = [&[LOAD, Event::Start][..], &noise, &[Event::Area]].concat();
-    assert_eq!(last_answer(&sheets, &events), accepted(9, 5, 300, 0));
+    assert_eq!(last_answer(&sheets, &events), accepted(9, 5, 390, 0));
 }
 
 /// The cases that no theorem has, in one session.

@@ -397,8 +397,8 @@ fn plan(test: &str) -> PathBuf {
     example("plan", test)
 }
 
-/// By document 01: raw 0 and 10,000,000 against a reference of 1,000,000,000 at R 40,000,000,
-/// and the area of the three readings.
+/// By document 01: raw 0 and 10,000,000 against a reference of 1,000,000,000 at R 40,000,000;
+/// by document 02's R-5 the area of the three readings.
 const PLANNED_LINES: &str = "\
 1 1 0 0 0 0
 2 4 0 0 0 0
@@ -407,7 +407,7 @@ const PLANNED_LINES: &str = "\
 5 6 0 40000000 1388160000 1388160000
 6 6 0 40000000 1000000000 1000000000
 7 8 0 0 0 0
-8 9 0 3 2776320000 0
+8 9 0 3 776320000 0
 ";
 
 /// Stored where nothing stood, and over a longer file, of which nothing is left.

@@ -5,7 +5,7 @@ use std::fs;
 use std::path::{Path, PathBuf};
 
 use irga_tests::file::{self, Outcome, Session};
-use irga_tests::harness::{Campaign, Executable, Program};
+use irga_tests::harness::{areas, Campaign, Executable, Program};
 use irga_tests::random::Random;
 use irga_tests::sessions;
 
@@ -138,6 +138,42 @@ fn a_malformed_sample_that_does_not_close_is_caught() {
         for (answer, changed) in output.chunks_exact_mut(24).zip(other.chunks_exact(24)) {
             answer[1..].copy_from_slice(&changed[1..]);
         }
+    });
+}
+
+/// An engine with another rule for the area of the readings that it counted.
+fn areas_by(rule: fn(&[i64]) -> i64, file: &[u8], output: &mut [u8], outcome: &Outcome) {
+    let Some(session) = Session::open(file).filter(|_| outcome.status == 0) else {
+        return;
+    };
+    for (place, counted) in areas(&session.answers()) {
+        let x = 24 * place + 8;
+        output[x..x + 8].copy_from_slice(&rule(&counted).to_le_bytes());
+    }
+}
+
+/// The line under n readings from the first to the last, counted so often.
+fn line(counted: &[i64], times: i64) -> i64 {
+    times * (counted[0] + counted[counted.len() - 1])
+}
+
+/// Document 02's R-5: the first left in the sum, n for n − 1, and the last left out.
+#[test]
+fn other_rules_for_the_area_are_caught() {
+    caught(58, "answer", |file, output, outcome| {
+        let rule = |all: &[i64]| 2 * all.iter().sum::<i64>() - line(all, all.len() as i64 - 1);
+        areas_by(rule, file, output, outcome);
+    });
+    caught(59, "answer", |file, output, outcome| {
+        let rule = |all: &[i64]| 2 * all[1..].iter().sum::<i64>() - line(all, all.len() as i64);
+        areas_by(rule, file, output, outcome);
+    });
+    caught(60, "answer", |file, output, outcome| {
+        let rule = |all: &[i64]| {
+            let others = all.len() - 1;
+            2 * all[..others].iter().sum::<i64>() - line(all, others as i64)
+        };
+        areas_by(rule, file, output, outcome);
     });
 }
 

@@ -135,10 +135,11 @@ fn lowest_wet_value() -> (Sheet, Air, i64) {
     (sheet, lowest, wet(&lowest))
 }
 
-/// 2Σ − (n − 1)(Xs + Xe) of 600,000 readings whose ends have one value and all others another.
+/// 2(Σ − Xs) − (n − 1)(Xs + Xe) of 600,000 readings whose ends have one value and all others
+/// another.
 fn area_of_ends(ends: i64, others: i64) -> i128 {
     let (n, ends, others) = (i128::from(READINGS_LIMIT), i128::from(ends), i128::from(others));
-    2 * (others * (n - 2) + 2 * ends) - (n - 1) * 2 * ends
+    2 * (others * (n - 2) + ends) - (n - 1) * 2 * ends
 }
 
 /// The engine's area of so many samples, the first and the last of them of one kind.

@@ -195,9 +195,10 @@ fn stop_and_area_wait_for_their_time() {
     let closed_empty = after(&[LOAD, Event::Start, Event::Stop]);
     assert_eq!(refusal(&closed_empty, Event::Area), 10);
     assert_eq!(refusal(&closed_empty, Event::Stop), 10);
-    let running = after(&[LOAD, Event::Start, good(1)]);
+    // Readings of 15 and 30: twice the second, less both.
+    let running = after(&[LOAD, Event::Start, good(1), good(2)]);
     let (answers, state) = walk(running, &[Entry::Known(Event::Area)]);
-    assert_eq!(answers[0], Answer { kind: 9, refusal: 0, m: 1, x: 30, y: 0 });
+    assert_eq!(answers[0], Answer { kind: 9, refusal: 0, m: 2, x: 15, y: 0 });
     assert_eq!(state, running, "an area leaves the state");
     let restarted = after(&[LOAD, Event::Start, good(1), Event::Stop, Event::Start]);
     assert_eq!(restarted, empty, "a start takes whatever stood before");

@@ -468,7 +468,7 @@ fn refusals_and_their_order() {
 fn distances_from_the_exact_equation() {
     let [absolute, against] = [ledger::WET_ABSOLUTE, ledger::WET_AGAINST].map(number);
     let [dry, cylinder] = [ledger::DRY, ledger::CYLINDER].map(number);
-    assert_eq!(ledger::area_allowed(7), ledger::WET_AGAINST * (4 * 7 - 2));
+    assert_eq!(ledger::area_allowed(7), ledger::WET_AGAINST * (4 * 7 - 4));
     for sentence in [
         format!(
             "within {absolute} pmol/mol of equation (11) in exact fractions, {against} against"
@@ -478,7 +478,7 @@ fn distances_from_the_exact_equation() {
             "at least the cylinder less {cylinder}, and one unit lower, if that signal isn't 0,"
         ),
         format!("less than the cylinder plus {cylinder} "),
-        format!("within {against} (4n − 2) of the exact area"),
+        format!("within {against} (4n − 4) of the exact area"),
     ] {
         assert_says(&sentence);
     }

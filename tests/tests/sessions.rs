@@ -6,6 +6,7 @@ use std::sync::OnceLock;
 use irga_tests::engine::{step, Answer, Entry, Event, Mode, State};
 use irga_tests::exact::{self, Fraction};
 use irga_tests::file::{self, EventRecord, Session};
+use irga_tests::harness::areas;
 use irga_tests::hostile;
 use irga_tests::rules::{self, Air};
 use irga_tests::sessions;
@@ -189,21 +190,36 @@ fn signals_around_zero() {
 /// Areas of readings on both sides of zero, whose sum can cancel.
 #[test]
 fn areas_across_zero() {
-    let mut across = 0;
-    for session in sound() {
-        let (mut runs, mut low, mut high) = (false, 0, 0);
-        for Answer { kind, refusal, x, .. } in session.answers() {
-            match (kind, refusal) {
-                (7, 0) => (runs, low, high) = (true, 0, 0),
-                (6, 0) if runs => (low, high) = (low.min(x), high.max(x)),
-                (1..=5 | 8, 0) | (6, _) => runs = false,
-                (9, 0) => across += u32::from(low < 0 && 0 < high),
-                _ => {}
+    let areas = sound().flat_map(|session| areas(&session.answers()));
+    let sign = |counted: &[i64], sign: i64| counted.iter().any(|wet| wet.signum() == sign);
+    let across = areas.filter(|(_, counted)| sign(counted, -1) && sign(counted, 1)).count();
+    println!("areas of readings on both sides of zero: {across}");
+    assert!(across >= 1_000, "{across}");
+}
+
+/// Document 02's R-5: an area of one reading and of a flat line is 0. Every area is what its
+/// readings after the first have above the middle of first and last, twice.
+#[test]
+fn areas_of_one_reading_and_of_flat_lines() {
+    let (mut one, mut flat, mut flat_below, mut others) = (0, 0, 0, 0);
+    for answers in sound().map(|session| session.answers()) {
+        for (place, counted) in areas(&answers) {
+            let (area, first, last) = (answers[place].x, counted[0], counted[counted.len() - 1]);
+            let above_the_ends = counted[1..].iter().map(|wet| 2 * wet - first - last);
+            assert_eq!(area, above_the_ends.sum::<i64>(), "{counted:?}");
+            let steady = counted.iter().all(|wet| *wet == first);
+            assert!(!steady || area == 0, "{counted:?}");
+            match counted.len() {
+                1 => one += 1,
+                _ if steady && first < 0 => flat_below += 1,
+                _ if steady => flat += 1,
+                _ => others += 1,
             }
         }
     }
-    println!("areas of readings on both sides of zero: {across}");
-    assert!(across >= 1_000, "{across}");
+    println!("areas of one reading: {one}; of flat lines: {flat}, below zero {flat_below}");
+    println!("other areas: {others}");
+    assert!(one >= 1_000 && flat >= 300 && flat_below >= 20 && others >= 5_000);
 }
 
 #[test]

@@ -1,9 +1,10 @@
 //! The named readings with large errors, each run again and its error computed again
 //! in exact fractions. An allowed distance below one of them would be broken by it.
 
+use irga_tests::engine::Event;
 use irga_tests::exact::Fraction;
 use irga_tests::file::{EventRecord, Session};
-use irga_tests::ledger::check_list;
+use irga_tests::ledger::{area_allowed, check_list, Ledger};
 use irga_tests::worst::{climb, Kind, Reading, KINDS};
 
 const NAMED: &str = include_str!("../named_readings.txt");
@@ -23,11 +24,14 @@ const TRIED: [(Kind, i128); 5] = [
     (Kind::BelowReference, 114),
 ];
 
-/// The named reading of a kind, with its error.
-fn error_of(kind: Kind) -> Fraction {
+fn named(kind: Kind) -> Reading {
     let mut named = blocks().into_iter().filter_map(Reading::parse);
-    let reading = named.find(|reading| reading.kind == kind);
-    reading.expect("a reading of every kind").replay().unwrap().1
+    named.find(|reading| reading.kind == kind).expect("a reading of every kind")
+}
+
+/// The error of the named reading of a kind.
+fn error_of(kind: Kind) -> Fraction {
+    named(kind).replay().unwrap().1
 }
 
 #[test]
@@ -48,11 +52,64 @@ fn every_bound_that_an_edit_tries_is_broken() {
     }
 }
 
+/// The session that the edit `claim_area_320` of `crates/ledger` names: the named reading
+/// against a reference, which is too high, stands first and last of these readings, and between
+/// them one that is too low.
+const READINGS: usize = 2_000;
+const TOO_LOW: i32 = 8_042_466;
+
+fn session_with_an_area() -> Session {
+    let mut session = named(Kind::WetAgainst).session();
+    let high = session.events.pop().expect("its sample");
+    let low = EventRecord { raw: TOO_LOW, ..high };
+    session.events.extend([EventRecord::of(&Event::Start), high]);
+    session.events.extend([low; READINGS - 2]);
+    session.events.extend([high, EventRecord::of(&Event::Area)]);
+    session
+}
+
+/// Its area, and how far that is from the exact one.
+fn area_with_error() -> (i64, Fraction) {
+    let session = session_with_an_area();
+    let (mut ledger, answers) = (Ledger::fresh(), session.answers());
+    for (record, answer) in session.events.iter().zip(&answers) {
+        assert_eq!(answer.refusal, 0);
+        ledger
+            .check(&session.sheets, &record.entry(), answer)
+            .unwrap_or_else(|why| panic!("{why}"));
+    }
+    let area = answers.last().expect("an area");
+    assert_eq!(area.m as usize, READINGS);
+    let exact = ledger.exact_area().expect("readings");
+    (area.x, Fraction::whole(i128::from(area.x)).minus(&exact))
+}
+
+/// The area rule comes to 2 × 1,998 × (low − high) here.
+#[test]
+fn the_bound_of_an_area_that_an_edit_tries_is_broken() {
+    let (area, error) = area_with_error();
+    let periods = READINGS as i128 - 1;
+    assert_eq!(area, 2 * 1_998 * (2_999_891_006 - 2_999_343_337));
+    assert!(!error.within(0, 320 * 4 * periods));
+    assert_eq!(area_allowed(READINGS as u64), 1_800 * 4 * periods);
+    let share = error.times(&Fraction::of(1, 4 * periods));
+    let row = "| area of n values, each within 1,800";
+    assert_eq!(last_cells(row), [format!("{} (4n − 4)", hundredths(&share)), String::new()]);
+}
+
+/// The last two cells of the page's row that begins so.
+fn last_cells(begin: &str) -> [String; 2] {
+    let page = include_str!("../../docs/ERRORS.md");
+    let row = page.lines().find(|line| line.starts_with(begin));
+    let row = row.unwrap_or_else(|| panic!("docs/ERRORS.md has no row {begin}"));
+    let cells: Vec<&str> = row.trim_matches('|').split('|').map(str::trim).collect();
+    [cells[cells.len() - 2], cells[cells.len() - 1]].map(str::to_string)
+}
+
 /// The last two cells of each row of the page's table: the error of the kind's named
 /// reading, and of the one below zero.
 #[test]
 fn the_page_on_errors_quotes_them() {
-    let page = include_str!("../../docs/ERRORS.md");
     let rows = [
         ("| equation (11) at R and R − 1,", Kind::AtReference, None),
         ("| wet, absolute (k = 1)", Kind::WetAbsolute, Some(Kind::WetAbsoluteBelowZero)),
@@ -60,12 +117,9 @@ fn the_page_on_errors_quotes_them() {
         ("| dry, either mode", Kind::Dry, Some(Kind::DryBelowZero)),
     ];
     for (begin, above, below) in rows {
-        let row = page.lines().find(|line| line.starts_with(begin));
-        let row = row.unwrap_or_else(|| panic!("docs/ERRORS.md has no row {begin}"));
-        let cells: Vec<&str> = row.trim_matches('|').split('|').map(str::trim).collect();
         let quoted = |kind: Kind| hundredths(&error_of(kind));
         let expected = [quoted(above), below.map_or(String::new(), quoted)];
-        assert_eq!(cells[cells.len() - 2..], expected, "{row}");
+        assert_eq!(last_cells(begin), expected, "{begin}");
     }
 }
 

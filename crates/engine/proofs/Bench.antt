@@ -4,7 +4,7 @@ use mathlib.Core.Path.{_≡_, refl, sym, ap, subst, _∙_}
 use native.Mathlib.Omega.{arith}
 use lib.IntN.{ℤ, pos, _+ℤ_, _-ℤ_, _*ℤ_}
 use Rattle.rounding.specs.Near.{nearest}
-use Rattle.rounding.proofs.Difference.{is-nat, is-add, is-minus, is-mul, is-parts, is-eq}
+use Rattle.rounding.proofs.Difference.{is-nat, is-add, is-minus, is-scale, is-parts, is-eq}
 use Rattle.curve.specs.Limits.{airWithin}
 use Rattle.curve.specs.Curve.{reducedOf, slope2Of, slope1Of, cubicOf, straightOf, moistOf, warmOf, wetOf, dryOf}
 use Rattle.curve.specs.Absolute.{absoluteOf}
@@ -23,11 +23,11 @@ use Rattle.sampling.specs.Span.{settingOf, spannedOn}
 use Rattle.rules.specs.Rules.{answered, withIntegration, spanBy, areaAnswer, rules}
 use Rattle.engine.specs.Bench.{benchState, referenceState, countedOnce, sample, start, area, Answers, after, StarredCases}
 
--- 2X less nothing, where n − 1 is 0
-one : (x : ℤ) → (pos 0 +ℤ x) *ℤ pos 2 -ℤ (x +ℤ x) *ℤ pos 0 ≡ x *ℤ pos 2
+-- twice the sum X without the first, X, less nothing, where n − 1 is 0
+one : (x : ℤ) → ((pos 0 +ℤ x) -ℤ x) *ℤ pos 2 -ℤ (x +ℤ x) *ℤ pos 0 ≡ pos 0
 one x =
     let X = is-parts x in
-    is-eq (is-minus (is-mul (is-add (is-nat 0) X) (is-nat 2)) (is-mul (is-add X X) (is-nat 0))) (is-mul X (is-nat 2)) (omega arith)
+    is-eq (is-minus (is-scale 2 (is-minus (is-add (is-nat 0) X) X)) (is-scale 0 (is-add X X))) (is-nat 0) (omega arith)
 
 -- a sample against the reference, whatever the integration, which counts it: R is what the crate below says was found
 abbrev counting : Integration → State
@@ -42,19 +42,18 @@ module _ (i : Integration) where
   unfolding sampledOf sampledOn airWithin absoluteOf signalOf againstOf nearest reducedOf slope2Of slope1Of cubicOf moistOf warmOf wetOf dryOf
   high = rw (starred-references .reference)
 
--- what is counted after a start and the first readings
+-- what is counted after a start and the first reading
 abbrev counted-1 : Integration
 counted-1 = countedOf (Integration.Running emptyTally) (pos 1000000000)
 
-abbrev counted-2 : Integration
-counted-2 = countedOf counted-1 (pos 1388160000)
-
--- the state after a start and the three readings
-three-state : after referenceState (start ∷ sample (pos 0) ∷ sample (pos 10000000) ∷ sample (pos 0) ∷ []) ≡ counting (countedOf counted-2 (pos 1000000000))
-three-state =
-    ap (λ (x : Stepped). after (x .state) (sample (pos 10000000) ∷ sample (pos 0) ∷ [])) (low (Integration.Running emptyTally))
-    ∙ ap (λ (x : Stepped). after (x .state) (sample (pos 0) ∷ [])) (high counted-1)
-    ∙ ap (λ (x : Stepped). x .state) (low counted-2)
+-- the state after a start and the three readings; the second sample is any that is read as wet, and counted
+three-state : (raw wet : ℤ)
+    → rules [] (counting counted-1) (sample raw) ≡ answered (Answer.Reading 40000000 wet wet) (counting (countedOf counted-1 wet))
+    → after referenceState (start ∷ sample (pos 0) ∷ sample raw ∷ sample (pos 0) ∷ []) ≡ counting (countedOf (countedOf counted-1 wet) (pos 1000000000))
+three-state raw wet e =
+    ap (λ (x : Stepped). after (x .state) (sample raw ∷ sample (pos 0) ∷ [])) (low (Integration.Running emptyTally))
+    ∙ ap (λ (x : Stepped). after (x .state) (sample (pos 0) ∷ [])) e
+    ∙ ap (λ (x : Stepped). x .state) (low (countedOf counted-1 wet))
 
 -- a span on the bench sheet, by what was found
 abbrev spanned : Found → Stepped
@@ -88,7 +87,8 @@ starred-cases =
       span-beyond = rw (starred-references .span-beyond);
       span-500000 = ap spanned (starred-references .span-500000);
       span-below = rw (starred-references .span-below);
-      three-readings = subst (λ (st : State). Answers st area (Answer.Area 3 (pos 2776320000))) (sym three-state) refl;
+      three-readings = subst (λ (st : State). Answers st area (Answer.Area 3 (pos 776320000))) (sym (three-state (pos 10000000) (pos 1388160000) (high counted-1))) refl;
+      flat-line = subst (λ (st : State). Answers st area (Answer.Area 3 (pos 0))) (sym (three-state (pos 0) (pos 1000000000) (low counted-1))) refl;
       one-sample = refl;
       one-reading = λ x. ap (λ (y : ℤ). answered (Answer.Area 1 y) (countedOnce x)) (one x);
     }

@@ -1,9 +1,9 @@
--- The starred cases of document 01, "Readings on the bench", as R-1 has them and with its two limits, as one fact about the rules: each
--- as what `rules` answers to an entry at a named state, and the state that it leaves. Assumes nothing.
+-- The starred cases of document 01, "Readings on the bench", as R-1 and R-5 have them, with R-1's two limits and R-5's flat line, as one fact
+-- about the rules: each as what `rules` answers to an entry at a named state, and the state that it leaves. Assumes nothing.
 use mathlib.Core.List.{List, [], _∷_}
 use mathlib.Core.Path.{_≡_}
 use Prim.Native.Nat.{ℕ}
-use lib.IntN.{ℤ, pos, negsuc, negℤ, _*ℤ_}
+use lib.IntN.{ℤ, pos, negsuc, negℤ}
 use Rattle.curve.specs.Bench.{benchSheet, StarredReadings}
 use Rattle.reference.specs.Bench.{smallSheet, StarredReferences}
 use Rattle.counting.specs.declared.Integration.{Integration}
@@ -113,9 +113,11 @@ pub record StarredCases : Type 0 where
   pub span-beyond : Answers benchState (spanTo (pos 19999999)) (Answer.Refused 5)
   pub span-500000 : AnswersLeaving benchState (spanTo (pos 80000000)) (Answer.Spanned 500000) (spanState 500000)
   pub span-below : Answers benchState (spanTo (pos 90000000)) (Answer.Refused 5)
-  -- a start, wet values 1,000,000,000, 1,388,160,000, 1,000,000,000, and the area
+  -- a start, wet values 1,000,000,000, 1,388,160,000, 1,000,000,000, and the area (R-5)
   pub three-readings :
-      Answers (after referenceState (start ∷ sample (pos 0) ∷ sample (pos 10000000) ∷ sample (pos 0) ∷ [])) area (Answer.Area 3 (pos 2776320000))
-  -- one reading X gives 2X: after a start and V 40,000,000, and after any X that was counted
-  pub one-sample : Answers (after benchState (start ∷ sample (pos 40000000) ∷ [])) area (Answer.Area 1 (pos 2000000000))
-  pub one-reading : (x : ℤ) → Answers (countedOnce x) area (Answer.Area 1 (x *ℤ pos 2))
+      Answers (after referenceState (start ∷ sample (pos 0) ∷ sample (pos 10000000) ∷ sample (pos 0) ∷ [])) area (Answer.Area 3 (pos 776320000))
+  -- a steady 1,000,000,000 over three samples has no area (R-5)
+  pub flat-line : Answers (after referenceState (start ∷ sample (pos 0) ∷ sample (pos 0) ∷ sample (pos 0) ∷ [])) area (Answer.Area 3 (pos 0))
+  -- one reading gives 0 (R-5): after a start and V 40,000,000, and after any X that was counted
+  pub one-sample : Answers (after benchState (start ∷ sample (pos 40000000) ∷ [])) area (Answer.Area 1 (pos 0))
+  pub one-reading : (x : ℤ) → Answers (countedOnce x) area (Answer.Area 1 (pos 0))

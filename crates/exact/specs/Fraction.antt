@@ -3,6 +3,7 @@
 -- since with 0 there it would say nothing of the whole number. Assumes nothing.
 use Prim.Native.Nat.{ℕ, _*_, _≤_, _<_}
 use mathlib.Core.Bool.{Bool}
+use mathlib.Core.Path.{_≡_}
 use lib.IntN.{ℤ, pos, natAbs, _+ℤ_, _-ℤ_, _*ℤ_}
 use lib.Signed.{ltZ, _≤ℤ_, _<ℤ_}
 
@@ -42,6 +43,11 @@ abbrev pub belowZero : Fraction → Bool
 belowZero x = ltZ (x .num) (pos 0)
 
 -- ---- predicates
+
+-- x and y are one value: x = y
+pub record SameValue (x y : Fraction) : Type 0 where
+  pub lower : (0 < x .den) × (0 < y .den)
+  pub across : x .num *ℤ pos (y .den) ≡ y .num *ℤ pos (x .den)
 
 -- the whole number c lies within bound of x: |c − x| ≤ bound
 pub record LiesWithin (c : ℤ) (bound : ℕ) (x : Fraction) : Type 0 where

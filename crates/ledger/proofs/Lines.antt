@@ -11,7 +11,7 @@ use lib.IntN.{ℤ, natAbs}
 use Rattle.curve.specs.Limits.{within}
 use Rattle.curve.proofs.Within.{range}
 use Rattle.exact.specs.Fraction.{Fraction}
-use Rattle.exact.specs.Area.{EachWithin, areaOf}
+use Rattle.exact.specs.Area.{EachWithin}
 use Rattle.exact.proofs.Area.{same-length, area-distance}
 use Rattle.rules.specs.declared.Loaded.{Loaded}
 use Rattle.sampling.specs.declared.Mode.{Mode}
@@ -30,7 +30,7 @@ use Rattle.engine.proofs.Cases.{closing, Ruled, refuses, malformed, loads, zero
 use Rattle.ledger.specs.Ledger.{Ledger, withSeries, taken, exactValue, refusedBy, ledgerStep}
 use Rattle.ledger.specs.Wets.{wetsStep}
 use Rattle.ledger.specs.Claim.{RefusalHolds, LedgerHolds}
-use Rattle.ledger.proofs.Tallies.{tallyOf, Keeps, idle, started, keeps-closed, keeps-counted, keeps-tally, keeps-within, takenAtEnd, takenRuns}
+use Rattle.ledger.proofs.Tallies.{tallyOf, tally-area, Keeps, idle, started, keeps-closed, keeps-counted, keeps-tally, keeps-within, takenAtEnd, takenRuns}
 use Rattle.ledger.proofs.Samples.{ledgerAt, sample-worth}
 
 -- ---- settings within their limits
@@ -115,15 +115,15 @@ module _ (sheets : List ℕ) (st : State) {ws : List ℤ} {xs : List Fraction} {
 
   -- ---- an area
   area-good : {t : Tally} → t ≡ tallyOf ws → EachWithin ws xs → Good sheets g ws (Entry.Known Event.Area) (answered (Answer.Area (t .n) (tallyArea t)) st)
-  unfolding tallyArea areaOf ledgerStep wetsStep
+  unfolding ledgerStep wetsStep
   area-good e d =
       rw e
       (makes xs b tt
       (record {
         count = same-length d;
         wet-count = refl;
-        wet-area = refl;
-        distance = rw (← same-length d) at (area-distance d);
+        wet-area = tally-area ws;
+        distance = rw (tally-area ws) (rw (← same-length d) at (area-distance d));
       }) h k refl)
 
   -- ---- every entry

@@ -14,17 +14,22 @@ use lib.ListN.{length, getD, length-append}
 use Rattle.rounding.proofs.Integers.{abs-add}
 use Rattle.exact.specs.Fraction.{Fraction, LiesWithin}
 use Rattle.exact.specs.Bounds.{againstBound}
-use Rattle.exact.specs.Area.{firstOf, lastOf, sumOf, EachWithin, empty}
-use Rattle.exact.proofs.Area.{same-length, each-append}
+use Rattle.exact.specs.Area.{firstOf, lastOf, sumOf, areaOf, EachWithin, empty, ByTheLetter}
+use Rattle.exact.proofs.Area.{same-length, each-append, by-the-letter}
 use Rattle.counting.specs.declared.Tally.{Tally}
 use Rattle.counting.specs.declared.Integration.{Integration}
-use Rattle.counting.specs.Integration.{integrationLimit, emptyTally, talliedOf, countedOf, closedOf}
+use Rattle.counting.specs.Integration.{integrationLimit, emptyTally, talliedOf, countedOf, closedOf, tallyArea}
 use Rattle.counting.specs.Limits.{integrationWithin}
 use Rattle.engine.proofs.Cases.{Tallied, in-running, in-closed}
 
 -- ---- the tally of a list
 abbrev pub tallyOf : List ℤ → Tally
 tallyOf ws = record { n = length ws; first = firstOf (pos 0) ws; last = lastOf (pos 0) ws; sum = sumOf ws }
+
+-- its area is the rule's over the list
+pub tally-area : (ws : List ℤ) → tallyArea (tallyOf ws) ≡ areaOf ws
+unfolding tallyArea
+tally-area ws = sym (by-the-letter .wet ws)
 
 first-append : (ws : List ℤ) (w : ℤ) → cond (eqb (length ws) 0) w (firstOf (pos 0) ws) ≡ firstOf (pos 0) (ws ++ (w ∷ []))
 first-append [] w = refl

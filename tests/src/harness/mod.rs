@@ -19,10 +19,27 @@ use std::path::{Path, PathBuf};
 use std::process::{Command, Output, Stdio};
 use std::thread;
 
+use crate::engine::Answer;
 use crate::file::{self, Outcome, Session, LINE_ROOM, RECORD_BYTES};
 use crate::ledger::{self, Distances};
 use crate::random::Random;
 use crate::sessions;
+
+/// Every accepted area among a session's answers: its place, and the wet values that it counts,
+/// told from the answers alone. No session file is long enough for the 600,000th.
+pub fn areas(answers: &[Answer]) -> Vec<(usize, Vec<i64>)> {
+    let (mut runs, mut counted, mut found) = (false, Vec::new(), Vec::new());
+    for (place, Answer { kind, refusal, x, .. }) in answers.iter().enumerate() {
+        match (kind, refusal) {
+            (7, 0) => (runs, counted) = (true, Vec::new()),
+            (6, 0) if runs => counted.push(*x),
+            (1..=5 | 8, 0) | (6, _) => runs = false,
+            (9, 0) => found.push((place, counted.clone())),
+            _ => {}
+        }
+    }
+    found
+}
 
 /// A run over a lent file into a lent output.
 pub trait Engine {

@@ -2,7 +2,7 @@
 //! aim: signals that are accepted, cylinders that have a reference signal, raw
 //! signals for which a span is found.
 
-use crate::engine::{self, Event, Integration, Mode, State};
+use crate::engine::{self, Event, Integration, Mode, State, SAMPLE};
 use crate::file::{EventRecord, Session, SHEETS_LIMIT};
 use crate::random::Random;
 use crate::rules::{self, Air, Sheet};
@@ -213,6 +213,12 @@ impl<'a> Author<'a> {
     }
 
     fn sample(&mut self) -> Event {
+        let last = self.session.events.iter().rfind(|record| record.kind == SAMPLE);
+        if let Some(last) = last.and_then(EventRecord::event_of_kind) {
+            if self.random.percent(self.profile.steady) {
+                return last;
+            }
+        }
         let air = self.air();
         let raw = match self.state.sheet {
             Some(sheet) if air.within_limits() => self.aimed_raw(&sheet, &air),

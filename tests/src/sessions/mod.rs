@@ -1,7 +1,7 @@
 //! Invented sessions: lessons as a class would give them, the limits and one beside
-//! them, signals over range by every ground, noise around zero, hostile kinds, padding and
-//! fields, damaged headers and lengths, long integrations, and lists with hardly an
-//! accepted event. `plans` and `faults` invent what a writer of session files is
+//! them, signals over range by every ground, noise around zero, flat lines, hostile kinds,
+//! padding and fields, damaged headers and lengths, long integrations, and lists with hardly
+//! an accepted event. `plans` and `faults` invent what a writer of session files is
 //! given, and `pages` has sessions whose figures are hard to round.
 
 mod author;
@@ -30,6 +30,8 @@ pub struct Profile {
     /// A sample's signal is around zero or below it; a reference gas has next to nothing, and a
     /// span is the lowest, under which one raw unit is half a unit of signal.
     below: u64,
+    /// A sample is the same as the last one.
+    steady: u64,
     /// An event of any kind stands where a lesson would have another.
     stray: u64,
     /// A number is any that its field can hold.
@@ -48,16 +50,18 @@ const LESSON: Profile = Profile {
     edge: 2,
     over: 1,
     below: 6,
+    steady: 0,
     stray: 3,
     wild: 0,
     spoilt: 0,
     damaged: 0,
 };
 
-pub const PROFILES: [Profile; 8] = [
+pub const PROFILES: [Profile; 9] = [
     LESSON,
     Profile { name: "limits", weight: 24, edge: 30, over: 12, stray: 8, wild: 1, ..LESSON },
     Profile { name: "zero gas", weight: 12, edge: 20, over: 0, below: 80, ..LESSON },
+    Profile { name: "flat line", weight: 6, below: 20, steady: 90, ..LESSON },
     Profile {
         name: "hostile",
         weight: 12,

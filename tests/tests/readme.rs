@@ -58,6 +58,23 @@ fn the_sixth_line_of_the_lesson() {
     ));
 }
 
+/// The area is below zero, so that its sign stands before the size.
+#[test]
+fn the_last_line_of_the_lesson() {
+    let session = lesson::session();
+    let text = session.text();
+    let line = text.lines().last().expect("a last line");
+    let Some(Answer { kind: 9, refusal: 0, m, x, .. }) = session.answers().last().copied() else {
+        panic!("{line} is no area");
+    };
+    assert!(x < 0);
+    // In pmol/mol times 0.1 s, ten million are 1 µmol/mol s.
+    let (whole, rest) = (-x / 10_000_000, -x % 10_000_000);
+    assert_says(&format!(
+        "Its last line, `{line}`, is the area of the {m} readings, −{whole}.{rest:07} µmol/mol s:"
+    ));
+}
+
 #[test]
 fn the_line_of_a_refused_file() {
     assert_says(&format!("gives the one line `{}`;", file::program(&[]).trim_end()));

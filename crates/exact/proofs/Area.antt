@@ -12,7 +12,7 @@ use Rattle.rounding.proofs.Approximation.{within-weaken, within-scale, within-s
 use Rattle.rounding.proofs.Difference.{Is, is-nat, is-shift, is-add, is-minus, is-scale, is-parts, is-eq, up, down}
 use Rattle.exact.specs.Fraction.{Fraction, whole, plus, minus, scaled, SameValue, LiesWithin}
 use Rattle.exact.specs.Bounds.{againstBound, areaBound}
-use Rattle.exact.specs.Area.{firstOf, lastOf, sumOf, areaOf, exactSum, exactEnds, exactArea, EachWithin, empty, next, ByTheLetter, FlatLine}
+use Rattle.exact.specs.Area.{firstOf, lastOf, sumOf, endsOf, areaOf, exactSum, exactEnds, exactArea, EachWithin, empty, next, ByTheLetter, FlatLine}
 use Rattle.exact.proofs.Distance.{lies-approx, approx-lies}
 
 pub same-length : {ws : List ℤ} {xs : List Fraction} → EachWithin ws xs → length ws ≡ length xs
@@ -58,8 +58,7 @@ area-distance {ws} {xs} r =
 taken : (w s : ℤ) → (w +ℤ s) -ℤ w ≡ s
 taken w s = let W = is-parts w in let S = is-parts s in is-eq (is-minus (is-add W S) W) S (omega arith)
 
-wet-letter : (ws : List ℤ)
-    → areaOf ws ≡ (sumOf ws -ℤ firstOf (pos 0) ws) *ℤ pos 2 -ℤ (firstOf (pos 0) ws +ℤ lastOf (pos 0) ws) *ℤ pos (length ws - 1)
+wet-letter : (ws : List ℤ) → areaOf ws ≡ (sumOf ws -ℤ firstOf (pos 0) ws) *ℤ pos 2 -ℤ endsOf ws *ℤ pos (length ws - 1)
 unfolding areaOf
 wet-letter [] = refl
 wet-letter (w ∷ ws) = rw (taken w (sumOf ws))

@@ -19,8 +19,12 @@ lastOf missing xs = getD xs (length xs - 1) missing
 abbrev pub sumOf : List ℤ → ℤ
 sumOf ws = foldr _+ℤ_ (pos 0) ws
 
+-- Xs + Xe
+abbrev pub endsOf : List ℤ → ℤ
+endsOf ws = firstOf (pos 0) ws +ℤ lastOf (pos 0) ws
+
 unfoldable pub areaOf : List ℤ → ℤ
-areaOf ws = sumOf (drop 1 ws) *ℤ pos 2 -ℤ (firstOf (pos 0) ws +ℤ lastOf (pos 0) ws) *ℤ pos (length ws - 1)
+areaOf ws = sumOf (drop 1 ws) *ℤ pos 2 -ℤ endsOf ws *ℤ pos (length ws - 1)
 
 -- ---- of exact values
 abbrev pub exactSum : List Fraction → Fraction
@@ -40,7 +44,7 @@ pub data EachWithin : List ℤ → List Fraction → Type 0 where
 
 -- ---- both are the paper's rule to the letter, with Σ the sum of all values, of which the first is taken
 pub record ByTheLetter : Type 0 where
-  pub wet : (ws : List ℤ) → areaOf ws ≡ (sumOf ws -ℤ firstOf (pos 0) ws) *ℤ pos 2 -ℤ (firstOf (pos 0) ws +ℤ lastOf (pos 0) ws) *ℤ pos (length ws - 1)
+  pub wet : (ws : List ℤ) → areaOf ws ≡ (sumOf ws -ℤ firstOf (pos 0) ws) *ℤ pos 2 -ℤ endsOf ws *ℤ pos (length ws - 1)
   pub exact : {ws : List ℤ} {xs : List Fraction} → EachWithin ws xs
       → SameValue (exactArea xs) (minus (scaled (minus (exactSum xs) (firstOf (whole (pos 0)) xs)) 2) (scaled (exactEnds xs) (length xs - 1)))
 

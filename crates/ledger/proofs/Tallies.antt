@@ -14,7 +14,7 @@ use lib.ListN.{length, getD, length-append}
 use Rattle.rounding.proofs.Integers.{abs-add}
 use Rattle.exact.specs.Fraction.{Fraction, LiesWithin}
 use Rattle.exact.specs.Bounds.{againstBound}
-use Rattle.exact.specs.Area.{firstOf, lastOf, sumOf, areaOf, EachWithin, empty, ByTheLetter}
+use Rattle.exact.specs.Area.{firstOf, lastOf, sumOf, areaOf, EachWithin, empty}
 use Rattle.exact.proofs.Area.{same-length, each-append, by-the-letter}
 use Rattle.counting.specs.declared.Tally.{Tally}
 use Rattle.counting.specs.declared.Integration.{Integration}

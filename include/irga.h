@@ -105,7 +105,7 @@ enum irga_kind {
     IRGA_ABSOLUTE = 5,  /* read against nothing from now on */
     IRGA_SAMPLE = 6,    /* raw, P, T, e: read a sample. m: reference signal, 0 in absolute mode;
                            x: wet; y: dry */
-    IRGA_START = 7,     /* start an integration; each reading after the first is 0.2 s */
+    IRGA_START = 7,     /* start an integration: of samples, one every 0.2 s */
     IRGA_STOP = 8,      /* stop it */
     IRGA_AREA = 9       /* m: readings counted; x: area, in pmol/mol times 0.1 s */
 };
@@ -227,7 +227,7 @@ uint8_t irga_reading(const uint8_t *answer, size_t answer_length,
  * 2 (S - first) - (n - 1)(first + last), with S the sum of all n readings. That is every
  * reading after the first for the 0.2 s before it, less the straight line from the first to
  * the last over these n - 1 periods. A flat line has no area: readings that are all the same
- * give 0, and so does a single one. It may be negative.
+ * give 0, and so does a single one. An area may be negative.
  *
  * answer, answer_length   an answer of irga_run; of more than 24 bytes the first 24 count
  * area                    gets the area in pmol/mol times 0.1 s (10^7 of them are

@@ -183,7 +183,7 @@ fn the_largest_area() {
     ];
     let page = in_one_line(include_str!("../../docs/DECISIONS.md"));
     let says = |figure: i128| {
-        let sign = if figure < 0 { "−" } else { "" };
+        let sign = if figure < 0 { " −" } else { " " };
         let figure = format!("{sign}{}", grouped(&figure.unsigned_abs().to_string()));
         assert!(page.contains(&figure), "docs/DECISIONS.md does not say {figure}");
     };

@@ -147,7 +147,7 @@ fn the_page_of_the_lesson() {
     ));
 }
 
-/// What examples/plan.c prepares: document 01's figures are those of `c_programs`.
+/// What examples/plan.c prepares: the papers' figures are those of `c_programs`.
 #[test]
 fn the_lesson_of_the_desk() {
     let plan = lesson::desk();

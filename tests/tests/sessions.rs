@@ -205,10 +205,10 @@ fn areas_of_one_reading_and_of_flat_lines() {
     for answers in sound().map(|session| session.answers()) {
         for (place, counted) in areas(&answers) {
             let (area, first, last) = (answers[place].x, counted[0], counted[counted.len() - 1]);
-            let above_the_ends = counted[1..].iter().map(|wet| 2 * wet - first - last);
-            assert_eq!(area, above_the_ends.sum::<i64>(), "{counted:?}");
             let steady = counted.iter().all(|wet| *wet == first);
             assert!(!steady || area == 0, "{counted:?}");
+            let above_the_ends = counted[1..].iter().map(|wet| 2 * wet - first - last);
+            assert_eq!(area, above_the_ends.sum::<i64>(), "{counted:?}");
             match counted.len() {
                 1 => one += 1,
                 _ if steady && first < 0 => flat_below += 1,

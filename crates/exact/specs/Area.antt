@@ -42,13 +42,14 @@ pub data EachWithin : List ℤ → List Fraction → Type 0 where
   empty : EachWithin [] []
   next : {w : ℤ} {x : Fraction} {ws : List ℤ} {xs : List Fraction} → LiesWithin w againstBound x → EachWithin ws xs → EachWithin (w ∷ ws) (x ∷ xs)
 
--- ---- both are the paper's rule to the letter, with Σ the sum of all values, of which the first is taken
+-- ---- both are the paper's rule to the letter, Σ being the sum of all values, of which the first is taken: the wet one as a number, the exact
+-- one as a value, of every list with wet values beside it, as the ledger's series has them
 pub record ByTheLetter : Type 0 where
   pub wet : (ws : List ℤ) → areaOf ws ≡ (sumOf ws -ℤ firstOf (pos 0) ws) *ℤ pos 2 -ℤ endsOf ws *ℤ pos (length ws - 1)
   pub exact : {ws : List ℤ} {xs : List Fraction} → EachWithin ws xs
       → SameValue (exactArea xs) (minus (scaled (minus (exactSum xs) (firstOf (whole (pos 0)) xs)) 2) (scaled (exactEnds xs) (length xs - 1)))
 
--- ---- a flat line has no area: n values that are all the same, and so one value, whatever it is
+-- ---- a flat line has no area: n times the same wet value, or the same exact value as one pair; so of one value, whatever it is
 pub record FlatLine : Type 0 where
   pub wet : (n : ℕ) (w : ℤ) → areaOf (replicate n w) ≡ pos 0
   pub exact : (n : ℕ) (x : Fraction) → 0 < x .den → SameValue (exactArea (replicate n x)) (whole (pos 0))

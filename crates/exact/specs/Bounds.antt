@@ -18,6 +18,6 @@ dryBound = 2000
 abbrev pub referenceBound : ℕ
 referenceBound = 450
 
--- of an area of n wet values, in either mode, from the area of their exact values; of one value it is 0, so that the two are equal
+-- of an area of n wet values, in either mode, from the area of their exact values, as R-5 has it; of one value it is 0: the two are equal
 abbrev pub areaBound : ℕ → ℕ
 areaBound n = 1800 * (4 * n - 4)

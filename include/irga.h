@@ -224,10 +224,11 @@ uint8_t irga_reading(const uint8_t *answer, size_t answer_length,
 
 /*
  * The area of an accepted area's answer, the whole number exactly:
- * 2 (S - first) - (n - 1)(first + last), with S the sum of all n readings. That is every
- * reading after the first for the 0.2 s before it, less the straight line from the first to
- * the last over these n - 1 periods. A flat line has no area: readings that are all the same
- * give 0, and so does a single one. An area may be negative.
+ * 2 (sum - first) - (n - 1)(first + last), over the wet values of all n readings. That is
+ * every reading after the first for the 0.2 s before it, less the straight line from the
+ * first to the last over these n - 1 periods. A flat line has no area: readings that are all
+ * the same give 0, and so does a single one; a straight rise or fall gives last - first. An
+ * area may be negative.
  *
  * answer, answer_length   an answer of irga_run; of more than 24 bytes the first 24 count
  * area                    gets the area in pmol/mol times 0.1 s (10^7 of them are

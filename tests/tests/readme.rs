@@ -155,7 +155,10 @@ fn the_lesson_of_the_desk() {
     assert_says("fills in one sheet and eight events,");
     let lines = file::program(&plan.session().to_bytes());
     let area = lines.lines().last().expect("a line for each event");
-    assert_says(&format!("on the last line, `{area}`, their area."));
+    assert_says(&format!("on the last line, `{area}`, their area, 77.632 µmol/mol s: "));
+    // Readings of 1,000, 1,388.16 and 1,000 µmol/mol.
+    assert_says("2 × (1,388.16 + 1,000) − 2 × (1,000 + 1,000) is 776.32, times 0.1 s.");
+    assert_eq!(area.split(' ').nth(4), Some("776320000"));
 }
 
 /// The cells, but for the first, of the first row of a table that begins like this.

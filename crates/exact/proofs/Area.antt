@@ -1,18 +1,18 @@
 -- The area of wet values that each lie within 1,800 of their exact value: it lies within 1,800 (4n − 4) of the exact area. Each of
--- the n − 1 values after the first counts twice, and n − 1 times the first and the last. Both areas are the paper's rule to the letter, and
--- that of a flat line is 0. Assumes nothing.
+-- the n − 1 values after the first counts twice, and n − 1 times the first and the last. Both areas are the paper's rule to the letter. Assumes
+-- nothing.
 use mathlib.Core.List.{List, [], _∷_, _++_}
 use mathlib.Core.Path.{_≡_, refl}
 use Prim.Native.Nat.{ℕ, zero, suc, _*_, _-_, _<_}
 use native.Mathlib.Nat.{le-refl, mul-pos}
 use native.Mathlib.Omega.{arith}
 use lib.IntN.{ℤ, pos, _+ℤ_, _-ℤ_, _*ℤ_}
-use lib.ListN.{length, getD, drop, replicate, length-drop, length-replicate, getD-replicate}
+use lib.ListN.{length, getD, drop, length-drop}
 use Rattle.rounding.proofs.Approximation.{within-weaken, within-scale, within-sum, within-difference}
-use Rattle.rounding.proofs.Difference.{Is, is-nat, is-shift, is-add, is-minus, is-scale, is-parts, is-eq, up, down}
-use Rattle.exact.specs.Fraction.{Fraction, whole, plus, minus, scaled, SameValue, LiesWithin}
+use Rattle.rounding.proofs.Difference.{is-add, is-minus, is-scale, is-parts, is-eq}
+use Rattle.exact.specs.Fraction.{Fraction, whole, plus, minus, scaled, Across, SameValue, LiesWithin}
 use Rattle.exact.specs.Bounds.{againstBound, areaBound}
-use Rattle.exact.specs.Area.{firstOf, lastOf, sumOf, endsOf, areaOf, exactSum, exactEnds, exactArea, EachWithin, empty, next, ByTheLetter, FlatLine}
+use Rattle.exact.specs.Area.{firstOf, sumOf, endsOf, areaOf, exactSum, exactEnds, exactArea, EachWithin, empty, next, ByTheLetter}
 use Rattle.exact.proofs.Distance.{lies-approx, approx-lies}
 
 pub same-length : {ws : List ℤ} {xs : List Fraction} → EachWithin ws xs → length ws ≡ length xs
@@ -64,9 +64,8 @@ wet-letter [] = refl
 wet-letter (w ∷ ws) = rw (taken w (sumOf ws))
 
 -- twice the rest s, less e, beside twice what is left of x and s without x, less e
-across : (x s e : Fraction) → (s .num *ℤ pos 2 *ℤ pos (e .den) -ℤ e .num *ℤ pos (s .den)) *ℤ pos (x .den * s .den * x .den * e .den)
-    ≡ (minus (plus x s) x .num *ℤ pos 2 *ℤ pos (e .den) -ℤ e .num *ℤ pos (x .den * s .den * x .den)) *ℤ pos (s .den * e .den)
-across x s e =
+letter-across : (x s e : Fraction) → Across (minus (scaled s 2) e) (minus (scaled (minus (plus x s) x) 2) e)
+letter-across x s e =
     let X = is-parts (x .num) in let S = is-parts (s .num) in let E = is-parts (e .num) in
     let all = is-add (is-scale (s .den) X) (is-scale (x .den) S) in
     let rest = is-minus (is-scale (x .den) all) (is-scale (x .den * s .den) X) in
@@ -83,59 +82,8 @@ exact-letter (next {x = x} {xs = xs} h r) =
     let e : 0 < exactEnds (x ∷ xs) .den = mul-pos (h .lower) (last .lower) in
     record {
       lower = (mul-pos (g .lower) e, mul-pos (mul-pos (mul-pos (h .lower) (g .lower)) (h .lower)) e);
-      across = across x (exactSum xs) (scaled (exactEnds (x ∷ xs)) others);
+      across = letter-across x (exactSum xs) (scaled (exactEnds (x ∷ xs)) others);
     }
 
 pub by-the-letter : ByTheLetter
 by-the-letter = record { wet = wet-letter; exact = exact-letter }
-
--- ---- a flat line
-others-flat : {A : Type 0} (m : ℕ) (a : A) → suc (length (replicate m a)) - 1 ≡ m
-others-flat m a = omega (arith, length-replicate m a)
-
-last-flat : {A : Type 0} (m : ℕ) (a missing : A) → lastOf missing (replicate (suc m) a) ≡ a
-last-flat m a missing = getD-replicate (suc m) (suc (length (replicate m a)) - 1) a missing (omega (arith, others-flat m a))
-
-sum-flat : (m : ℕ) (w : ℤ) → Is (sumOf (replicate m w)) (up w * m) (down w * m)
-sum-flat zero w = is-shift (up w * 0) (down w * 0) (is-nat 0) (omega arith)
-sum-flat (suc m) w = is-shift (up w * suc m) (down w * suc m) (is-add (is-parts w) (sum-flat m w)) (omega arith)
-
-wet-flat : (n : ℕ) (w : ℤ) → areaOf (replicate n w) ≡ pos 0
-unfolding areaOf
-wet-flat zero w = refl
-wet-flat (suc m) w =
-    let W = is-parts w in
-    rw (last-flat m w (pos 0), others-flat m w)
-    (is-eq (is-minus (is-scale 2 (sum-flat m w)) (is-scale m (is-add W W))) (is-nat 0) (omega arith))
-
--- m times x, by multiplying across
-exact-sum-flat : (m : ℕ) (x : Fraction) → 0 < x .den
-    → (0 < exactSum (replicate m x) .den) × (exactSum (replicate m x) .num *ℤ pos (x .den) ≡ x .num *ℤ pos (m * exactSum (replicate m x) .den))
-exact-sum-flat zero x l = (omega arith, is-eq (is-scale (x .den) (is-nat 0)) (is-scale (0 * 1) (is-parts (x .num))) (omega arith))
-exact-sum-flat (suc m) x l =
-    let X = is-parts (x .num) in let h = exact-sum-flat m x l in let d = exactSum (replicate m x) .den in (
-      mul-pos l (h .0),
-      rw (h .1)
-          (is-eq (is-scale (x .den) (is-add (is-scale d X) (is-scale (m * d) X))) (is-scale (suc m * (x .den * d)) X) (omega arith)),
-    )
-
-flat-across : (m : ℕ) (x s : Fraction) → s .num *ℤ pos (x .den) ≡ x .num *ℤ pos (m * s .den)
-    → minus (scaled s 2) (scaled (plus x x) m) .num *ℤ pos 1 ≡ pos 0 *ℤ pos (s .den * (x .den * x .den))
-flat-across m x s h =
-    let X = is-parts (x .num) in let S = is-parts (s .num) in let d = x .den in
-    let e : s .num *ℤ pos 2 *ℤ pos (d * d) ≡ s .num *ℤ pos d *ℤ pos (2 * d) =
-    is-eq (is-scale (d * d) (is-scale 2 S)) (is-scale (2 * d) (is-scale d S)) (omega arith) in
-    rw (e, h)
-    (is-eq (is-scale 1 (is-minus (is-scale (2 * d) (is-scale (m * s .den) X)) (is-scale (s .den) (is-scale m (is-add (is-scale d X) (is-scale d X))))))
-    (is-scale (s .den * (d * d)) (is-nat 0)) (omega arith))
-
-exact-flat : (n : ℕ) (x : Fraction) → 0 < x .den → SameValue (exactArea (replicate n x)) (whole (pos 0))
-unfolding exactArea
-exact-flat zero x l = record { lower = (omega arith, omega arith); across = refl }
-exact-flat (suc m) x l =
-    let h = exact-sum-flat m x l in
-    rw (last-flat m x (whole (pos 0)), others-flat m x)
-    (record { lower = (mul-pos (h .0) (mul-pos l l), omega arith); across = flat-across m x (exactSum (replicate m x)) (h .1) })
-
-pub flat-line : FlatLine
-flat-line = record { wet = wet-flat; exact = exact-flat }

@@ -11,7 +11,7 @@ use Rattle.rounding.proofs.Difference.{is-eq, is-nat, is-mul, is-scale, is-part
 use Rattle.rounding.proofs.Integers.{*ℤ-assoc, *ℤ-add, raised, raised-from-0, raised-to-0}
 use Rattle.rounding.proofs.Tests.{lt-true, lt-false}
 use Rattle.curve.specs.declared.Sheet.{Sheet}
-use Rattle.exact.specs.Fraction.{Fraction, times, scaled, over, belowZero}
+use Rattle.exact.specs.Fraction.{Fraction, times, scaled, over, belowZero, Across}
 use Rattle.exact.specs.Equation.{a1Of, a2Of, a3Of, millivolts, polynomial, straightLine, exactCurve}
 
 -- n + x
@@ -52,11 +52,7 @@ law : (n d b c k l m : ℤ)
     *ℤ (c *ℤ (d *ℤ b) *ℤ (c *ℤ (d *ℤ b *ℤ (d *ℤ b))) *ℤ (c *ℤ (d *ℤ b *ℤ (d *ℤ b) *ℤ (d *ℤ b))))
 law n d b c k l m = simp (*ℤ-add, add-*ℤ, *ℤ-assoc, *ℤ-comm, *ℤ-left-comm, +ℤ-assoc)
 
--- two fractions are equal, by multiplying across
-abbrev Same : Fraction → Fraction → Type 0
-Same x y = x .num *ℤ pos (y .den) ≡ y .num *ℤ pos (x .den)
-
-cubic-same : (s : Sheet) (z : Fraction) → Same (scaled (polynomial s (millivolts z)) 1000000) (atSlope s z z)
+cubic-same : (s : Sheet) (z : Fraction) → Across (scaled (polynomial s (millivolts z)) 1000000) (atSlope s z z)
 unfolding exactSlope1 exactSlope2
 cubic-same s z =
     rw (first, second, third)
@@ -77,18 +73,18 @@ cubic-same s z =
     third : a3Of s .den * (m * m * m) ≡ 1000000 * (d * d * d)
     third = omega arith
 
-straight-same : (s : Sheet) (z : Fraction) → Same (scaled (straightLine s (millivolts z)) 1000000) (atSlope s z (record { num = pos 0; den = z .den }))
+straight-same : (s : Sheet) (z : Fraction) → Across (scaled (straightLine s (millivolts z)) 1000000) (atSlope s z (record { num = pos 0; den = z .den }))
 unfolding exactSlope1 exactSlope2
 straight-same s z =
     let N = is-parts (z .num) in
     is-eq (is-scale _ (is-scale 1000000 (is-mul (is-nat (s .a1)) N))) (is-scale _ (is-mul N (is-nat _))) (omega arith)
 
 -- the exact curve at z, which has the sign of the exact signal x
-pub horner : (s : Sheet) (x z : Fraction) → (x .num <ℤ pos 0 → z .num ≤ℤ pos 0) → (pos 0 ≤ℤ x .num → pos 0 ≤ℤ z .num) → Same (exactCurve s x z) (exactHorner s z)
+pub horner : (s : Sheet) (x z : Fraction) → (x .num <ℤ pos 0 → z .num ≤ℤ pos 0) → (pos 0 ≤ℤ x .num → pos 0 ≤ℤ z .num) → Across (exactCurve s x z) (exactHorner s z)
 unfolding exactCurve exactHorner
 horner s x z below from-0 = by-sign (belowZero x) refl
   where
     by-sign : (t : Bool) → belowZero x ≡ t
-        → Same (scaled (cond t (straightLine s (millivolts z)) (polynomial s (millivolts z))) 1000000) (atSlope s z (raisedFraction z))
+        → Across (scaled (cond t (straightLine s (millivolts z)) (polynomial s (millivolts z))) 1000000) (atSlope s z (raisedFraction z))
     by-sign true e = rw (raised-to-0 (below (lt-true (x .num) (pos 0) e))) (straight-same s z)
     by-sign false e = rw (raised-from-0 (from-0 (lt-false (x .num) (pos 0) e))) (cubic-same s z)

@@ -5,4 +5,5 @@ pub mod Signals
 pub mod Distance
 pub mod Slope
 pub mod Area
+pub mod Flat
 pub mod Bench

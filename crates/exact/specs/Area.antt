@@ -2,7 +2,7 @@
 -- written as the sum of what follows the first. The area of an empty list is 0. Assumes nothing.
 use mathlib.Core.List.{List, [], _∷_, foldr}
 use mathlib.Core.Path.{_≡_}
-use Prim.Native.Nat.{ℕ, _-_, _<_}
+use Prim.Native.Nat.{ℕ, _-_}
 use lib.IntN.{ℤ, pos, _+ℤ_, _-ℤ_, _*ℤ_}
 use lib.ListN.{length, getD, drop, replicate}
 use Rattle.exact.specs.Fraction.{Fraction, whole, plus, minus, scaled, LiesWithin, SameValue}
@@ -49,7 +49,12 @@ pub record ByTheLetter : Type 0 where
   pub exact : {ws : List ℤ} {xs : List Fraction} → EachWithin ws xs
       → SameValue (exactArea xs) (minus (scaled (minus (exactSum xs) (firstOf (whole (pos 0)) xs)) 2) (scaled (exactEnds xs) (length xs - 1)))
 
--- ---- a flat line has no area: n times the same wet value, or the same exact value as one pair; so of one value, whatever it is
+-- values that are all x
+pub data AllAre (x : Fraction) : List Fraction → Type 0 where
+  none : AllAre x []
+  more : {y : Fraction} {ys : List Fraction} → SameValue y x → AllAre x ys → AllAre x (y ∷ ys)
+
+-- ---- a flat line has no area: n times the same wet value, or exact values that are all the same; so of one value, whatever it is
 pub record FlatLine : Type 0 where
   pub wet : (n : ℕ) (w : ℤ) → areaOf (replicate n w) ≡ pos 0
-  pub exact : (n : ℕ) (x : Fraction) → 0 < x .den → SameValue (exactArea (replicate n x)) (whole (pos 0))
+  pub exact : {x : Fraction} {xs : List Fraction} → AllAre x xs → SameValue (exactArea xs) (whole (pos 0))

@@ -44,10 +44,14 @@ belowZero x = ltZ (x .num) (pos 0)
 
 -- ---- predicates
 
+-- x and y come to the same, multiplied across
+abbrev pub Across : Fraction → Fraction → Type 0
+Across x y = x .num *ℤ pos (y .den) ≡ y .num *ℤ pos (x .den)
+
 -- x and y are one value: x = y
 pub record SameValue (x y : Fraction) : Type 0 where
   pub lower : (0 < x .den) × (0 < y .den)
-  pub across : x .num *ℤ pos (y .den) ≡ y .num *ℤ pos (x .den)
+  pub across : Across x y
 
 -- the whole number c lies within bound of x: |c − x| ≤ bound
 pub record LiesWithin (c : ℤ) (bound : ℕ) (x : Fraction) : Type 0 where

@@ -42,11 +42,11 @@ over x n = record { num = x .num; den = x .den * n }
 abbrev pub belowZero : Fraction → Bool
 belowZero x = ltZ (x .num) (pos 0)
 
--- ---- predicates
-
--- x and y come to the same, multiplied across
+-- x and y multiplied across, for `SameValue`, which says that their lower numbers are above 0
 abbrev pub Across : Fraction → Fraction → Type 0
 Across x y = x .num *ℤ pos (y .den) ≡ y .num *ℤ pos (x .den)
+
+-- ---- predicates
 
 -- x and y are one value: x = y
 pub record SameValue (x y : Fraction) : Type 0 where

@@ -45,7 +45,7 @@ pub fn tree(name: &str) -> PathBuf {
 }
 
 /// The body of `quotient` as it is.
-const ONE_SIGN: &str = "{\n    (2 * m + half) / (2 * b)\n}";
+const ONE_SIGN: &str = "{\n    (2 * m + b) / (2 * b)\n}";
 
 /// The same tree, `near` with a division and a remainder in it.
 pub fn two_signs(name: &str) -> PathBuf {

@@ -55,20 +55,20 @@ fn a_second_sign_or_a_loop_is_found() {
     for (file, old, new) in [
         // A sign more in each of the five functions.
         (near, "    if a < 0 {\n", "    if a / 2 < 0 {\n"),
-        (near, "    (2 * m + half) /", "    (2 * m + half) % 2 /"),
+        (near, "    (2 * m + b) /", "    (2 * m + b) % 2 /"),
         (signed, magnitude, "if a < 0 { (!a) as u64 / 1 + 1 }"),
         (signed, "    0 - (m as i64)", "    0 - (m as i64) % 3"),
         (signed, "    m as i64\n", "    m as i64 / 1\n"),
         // One that stands in another crate, reached by its whole path.
-        (near, "    (2 * m + half) /", "    (2 * curve::limits::air_within(m) + half) /"),
+        (near, "    (2 * m + b) /", "    (2 * curve::limits::air_within(m) + b) /"),
         // The one sign gone, or gone round twice.
-        (near, "    (2 * m + half) /", "    (2 * m + half) -"),
-        (near, "negative(quotient(", "negative(quotient(quotient(m, b, b), b - b, b) + quotient("),
+        (near, "    (2 * m + b) /", "    (2 * m + b) -"),
+        (near, "negative(quotient(", "negative(quotient(quotient(m, b), b) + quotient("),
         // Loops, and functions that call themselves.
-        (near, "    (2 * m + half) /", "    while m < half { m += 1; }\n    (2 * m + half) /"),
+        (near, "    (2 * m + b) /", "    while m < b { m += 1; }\n    (2 * m + b) /"),
         (signed, magnitude, "loop { break; } if a < 0 { (!a) as u64 + 1 }"),
         (signed, "    m as i64\n", "    for i in 0..m { negative(i); }\n    m as i64\n"),
-        (near, "    (2 * m + half) /", "    (2 * quotient(m, half, b) + half) /"),
+        (near, "    (2 * m + b) /", "    (2 * quotient(m, b) + b) /"),
         (signed, "    0 - (m as i64)", "    0 - crate::near(m as i64, 2)"),
     ] {
         assert!(!divides_once(&changed(file, old, new)), "not seen: {new}");
@@ -79,7 +79,7 @@ fn a_second_sign_or_a_loop_is_found() {
 fn comments_contracts_and_what_near_does_not_call_are_no_signs() {
     let (near, signed) = ("rounding/src/lib.rt", "rounding/src/signed.rt");
     for (file, old, new) in [
-        (near, "    (2 * m + half) /", "    // m / b, and while it lasts\n    (2 * m + half) /"),
+        (near, "    (2 * m + b) /", "    // m / b, and while it lasts\n    (2 * m + b) /"),
         (
             near,
             "    ensures { λ r. ⌜ r ≡ nearest a b ⌝ }",
@@ -95,8 +95,7 @@ fn comments_contracts_and_what_near_does_not_call_are_no_signs() {
 #[test]
 fn a_name_from_elsewhere_is_not_passed_over() {
     for call in ["m.div_euclid(b)", "bytes::half(m)", "halved(m)", "halved!(m)"] {
-        let files =
-            changed("rounding/src/lib.rt", "    (2 * m + half) /", &format!("    {call} /"));
+        let files = changed("rounding/src/lib.rt", "    (2 * m + b) /", &format!("    {call} /"));
         assert!(Sources::of(&files).holding("rounding::near").is_err(), "passed over: {call}");
     }
 }

@@ -45,7 +45,7 @@ fn differences_are_what_is_said_of_them() {
         let samples = page::samples(&owed.session);
         samples.iter().filter_map(|sample| sample.values()[2]).collect::<Vec<i64>>()
     };
-    let around_nothing = [-4_000, -5_000, -5_001, -10_000, 5_000, 4_999];
+    let around_nothing = [-4_000, -5_000, -4_999, -10_000, 5_000, 4_999];
     assert_eq!(differences(by_hand::differences()), around_nothing);
     assert_eq!(differences(by_hand::faint_cylinders()), around_nothing);
     assert_eq!(differences(by_hand::rounded_by_itself()), [2_000, 8_000]);
@@ -242,6 +242,9 @@ fn wrong_rules() -> Vec<Wrong> {
             format!("{}.{:02}", hundredths / 100, (hundredths % 100).abs())
         }),
         wrong_figures("figures that are cut", |value| decimal(value / 10_000, 2)),
+        wrong_figures("halves that go up", |value| {
+            decimal((2 * value + 10_000).div_euclid(20_000), 2)
+        }),
         wrong_figures("halves that go to the even figure", |value| {
             let (down, rest) = (value.div_euclid(10_000), value.rem_euclid(10_000));
             let up = rest > 5_000 || (rest == 5_000 && down % 2 != 0);

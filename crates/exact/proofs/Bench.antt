@@ -39,12 +39,17 @@ pub e-2000-dry : LiesWithin (pos 1055299366) 1 (exactDry (exactWet benchSheet (w
 unfolding exactDry exactWet exactCurve exactReduced
 e-2000-dry = computed _ _ _ tt tt
 
--- below zero the line: V −1 is −15 exactly. At the seam: raw −1 under the span 500,000 is an exact signal of −1/2, worth −7.5, where
--- the rounded signal is 0
+-- below zero the line: V −1 is −15 exactly. Raw −1 under the span 500,000 is an exact signal of −1/2, worth −7.5, where the rounded signal
+-- is −1
 pub v-minus-1 : LiesWithin (negsuc 14) 0 (exactWet benchSheet (whole (negsuc 0)) benchAir)
 unfolding exactWet exactCurve exactReduced
 v-minus-1 = computed _ _ _ tt tt
 
-pub seam : LiesWithin (pos 0) 8 (exactWet benchSheet (exactSignal (negsuc 0) (pos 0) 500000) benchAir)
+pub v-minus-half : LiesWithin (negsuc 14) 8 (exactWet benchSheet (exactSignal (negsuc 0) (pos 0) 500000) benchAir)
 unfolding exactWet exactCurve exactReduced exactSignal
+v-minus-half = computed _ _ _ tt tt
+
+-- at the seam: raw −1 under the span 1,000,001 and against R 1 is an exact signal just below 0, where the rounded signal is 0
+pub seam : LiesWithin (pos 0) 1 (exactWet benchSheet (exactAgainst (exactSignal (negsuc 0) (pos 0) 1000001) 1 200000000) benchAir)
+unfolding exactWet exactCurve exactReduced exactSignal exactAgainst
 seam = computed _ _ _ tt tt

@@ -1,44 +1,111 @@
--- The laws of `nearest`, by which the crates above know it: within half a step, monotone, exact at multiples, zero at zero,
--- the sign kept, no larger than a whole bound; and what the code computes at each sign. Above this file only the bench cases
--- unfold it, to compute a figure (`Bench.antt` of curve, reference and engine). Assumes nothing.
-use mathlib.Core.Path.{_≡_, refl, subst}
+-- The laws of `nearest`, by which the crates above know it: within half a step, a half away from zero, odd, monotone, exact at multiples,
+-- zero at zero, the sign kept, no larger than a whole bound; and what the code computes at each sign. Above this file only computed examples
+-- unfold it, for a figure (`Bench.antt` of curve, reference and engine, `Examples.antt` of figures and rows). Assumes nothing.
+use mathlib.Core.Path.{_≡_, refl, sym, ap, subst, _∙_}
 use mathlib.Core.Bool.{true, false}
-use Prim.Native.Nat.{ℕ, suc, _+_, _*_, _-_, _/_, _≤_, _<_}
-use native.Mathlib.Nat.{mul-div-le, lt-div-mul-add, lt-of-mul-lt-mul-left}
+use mathlib.Core.Logic.{⊎-elim}
+use Prim.Native.Nat.{ℕ, suc, _+_, _*_, _≤_, _<_}
+use native.Mathlib.Nat.{mul-div-le, lt-div-mul-add, lt-of-mul-lt-mul-left, eq-or-lt-of-le, div-eq-of-lt-le}
 use native.Mathlib.Omega.{arith}
 use lib.Dec.{T}
-use lib.IntN.{ℤ, pos, negsuc, negℤ, natAbs, _+ℤ_, _-ℤ_, _*ℤ_}
+use lib.IntN.{ℤ, pos, negsuc, negℤ, natAbs, _-ℤ_, _*ℤ_}
 use lib.Signed.{ltZ, _≤ℤ_}
-use Rattle.rounding.specs.Near.{floor, nearest}
-use Rattle.rounding.proofs.Difference.{Is, is-nat, is-add, is-minus, is-mul, is-neg, is-scale, is-parts, is-eq, is-le, of-le, up, down}
+use Rattle.rounding.specs.Near.{nearestSize, nearest}
+use Rattle.rounding.specs.Halves.{distance, IsNearest, AwayFromZero}
+use Rattle.rounding.proofs.Difference.{Is, is-shift, is-nat, is-minus, is-mul, is-neg, is-scale, is-parts, is-eq, is-le, of-le, up, down}
 use Rattle.rounding.proofs.Difference.{abs-le, of-abs-le}
+use Rattle.rounding.proofs.Integers.{pos-mono, abs-neg}
 use Rattle.rounding.proofs.Machine.{not-below-0}
 
--- ---- where it lies
-floor-law : (m : ℤ) (k : ℕ) {p n : ℕ} → 0 < k → Is m p n
-    → (up (floor m k) * k + n ≤ p + down (floor m k) * k) × (p + down (floor m k) * k < up (floor m k) * k + n + k)
-floor-law (pos j) k h i = let l : j < j / k * k + k = lt-div-mul-add h in omega (arith, mul-div-le j k)
-floor-law (negsuc j) k h i = let l : j < j / k * k + k = lt-div-mul-add h in omega (arith, mul-div-le j k)
+-- ---- of a size
+-- 2b·size ≤ 2m + b < 2b·size + 2b: the half that goes up
+size-law : (m b : ℕ) → 0 < b → (nearestSize m b * (2 * b) ≤ 2 * m + b) × (2 * m + b < nearestSize m b * (2 * b) + 2 * b)
+size-law m b h = let l : 2 * m + b < nearestSize m b * (2 * b) + 2 * b = lt-div-mul-add (omega arith) in omega (arith, mul-div-le (2 * m + b) (2 * b))
 
--- 2b·nearest ≤ 2a + b < 2b·nearest + 2b: the half that goes up
-module _ (a : ℤ) (b : ℕ) (h : 0 < b) where
-  bounds : (up (nearest a b) * (2 * b) + 2 * down a ≤ 2 * up a + b + down (nearest a b) * (2 * b))
-      × (2 * up a + b + down (nearest a b) * (2 * b) < up (nearest a b) * (2 * b) + 2 * down a + 2 * b)
-  unfolding nearest
-  bounds =
-      let l = floor-law (pos 2 *ℤ a +ℤ pos b) (2 * b) (omega arith) (is-add (is-mul (is-nat 2) (is-parts a)) (is-nat b)) in
-      omega arith
+-- x is at most y, from b x being below b y and b more
+pub less : (b : ℕ) {x y : ℕ} → b * x < b * (y + 1) → x ≤ y
+less b {x} {y} h = let l : x < y + 1 = lt-of-mul-lt-mul-left b h in omega arith
+
+size-mono : {m n : ℕ} (b : ℕ) → 0 < b → m ≤ n → nearestSize m b ≤ nearestSize n b
+size-mono {m} {n} b h k = let l = size-law m b h in let o = size-law n b h in less (2 * b) (omega arith)
+
+-- of two numbers k apart, p is the larger if n is not
+larger : {z : ℤ} {p n : ℕ} (k : ℕ) → Is z p n → natAbs z ≡ k → n < p + k → n + k ≤ p
+larger {z = pos a} k h e l = omega arith
+larger {z = negsuc a} k h e l = omega arith
+
+apart : {z : ℤ} {p n : ℕ} (k : ℕ) → Is z p n → p + k ≡ n → natAbs z ≡ k
+apart {z = pos a} k h e = omega arith
+apart {z = negsuc a} k h e = omega arith
+
+twice : {r : ℤ} {x y : ℕ} (m b : ℕ) → Is r x y → Is (pos 2 *ℤ (r *ℤ pos b -ℤ pos m)) (2 * (x * b)) (2 * (y * b) + 2 * m)
+twice {x} {y} m b R = is-shift (2 * (x * b)) (2 * (y * b) + 2 * m) (is-mul (is-nat 2) (is-minus (is-scale b R) (is-nat m))) (omega arith)
+
+-- the size that is computed is the nearest, and no other number is
+module _ (m b : ℕ) (h : 0 < b) where
+  size-is : IsNearest (pos (nearestSize m b)) (pos m) b
+  size-is =
+      let l = size-law m b h in
+      let d = twice m b (is-nat (nearestSize m b)) in
+      record { half = abs-le b d (omega arith) (omega arith); away = λ e. omega (arith, larger b d e (omega arith)) }
+
+  -- at a half, k lies above m / b
+  below-half : (k : ℕ) → IsNearest (pos k) (pos m) b → 2 * m < 2 * (k * b) + b
+  below-half k i =
+      let d = twice m b (is-nat k) in
+      ⊎-elim (λ e. omega (arith, i .away (apart b d (omega arith)))) (λ l. omega arith)
+      (eq-or-lt-of-le {n = 2 * m} {m = 2 * (k * b) + b} (omega (arith, of-abs-le b d (i .half))))
+
+  size-only : {r : ℤ} → IsNearest r (pos m) b → r ≡ pos (nearestSize m b)
+  size-only {r = pos k} i =
+      let l = of-abs-le b (twice m b (is-nat k)) (i .half) in
+      ap pos (sym (div-eq-of-lt-le (2 * b) (omega arith) (omega (arith, below-half k i))))
+  size-only {r = negsuc k} i = absurd (omega (arith, of-abs-le b (twice m b (is-parts (negsuc k))) (i .half)))
+
+-- ---- of either sign
+neg-neg : (z : ℤ) → z ≡ negℤ (negℤ z)
+neg-neg z = is-eq (is-parts z) (is-neg (is-neg (is-parts z))) (omega arith)
+
+-- −r is as near to −a / b as r to a / b
+mirrored-distance : (r a : ℤ) (b : ℕ) → distance (negℤ r) (negℤ a) b ≡ distance r a b
+mirrored-distance r a b =
+    let R = is-parts r in let A = is-parts a in
+    ap natAbs
+    (is-eq
+    (is-mul (is-nat 2) (is-minus (is-scale b (is-neg R)) (is-neg A)))
+    (is-neg (is-mul (is-nat 2) (is-minus (is-scale b R) A)))
+    (omega arith))
+    ∙ abs-neg (pos 2 *ℤ (r *ℤ pos b -ℤ a))
+
+mirrored : {r a : ℤ} {b : ℕ} → IsNearest r a b → IsNearest (negℤ r) (negℤ a) b
+mirrored {r} {a} {b} i =
+    let d = mirrored-distance r a b in
+    record { half = rw d (i .half); away = λ e. rw (abs-neg a, abs-neg r) (i .away (sym d ∙ e)) }
+
+is-law : (a : ℤ) (b : ℕ) → 0 < b → IsNearest (nearest a b) a b
+unfolding nearest
+is-law (pos n) b h = size-is n b h
+is-law (negsuc n) b h = mirrored (size-is (suc n) b h)
+
+only-law : (r a : ℤ) (b : ℕ) → 0 < b → IsNearest r a b → r ≡ nearest a b
+unfolding nearest
+only-law r (pos n) b h i = size-only n b h i
+only-law r (negsuc n) b h i = neg-neg r ∙ ap negℤ (size-only (suc n) b h (mirrored i))
+
+odd-law : (a : ℤ) (b : ℕ) → 0 < b → nearest (negℤ a) b ≡ negℤ (nearest a b)
+odd-law a b h = sym (only-law (negℤ (nearest a b)) (negℤ a) b h (mirrored (is-law a b h)))
+
+pub away-from-zero : AwayFromZero
+away-from-zero = record { is = is-law; only = only-law; odd = odd-law }
 
 -- ---- the laws
 
 -- r is a / b, but for half a step
 pub record Half (r a : ℤ) (b : ℕ) : Type 0 where
-  pub half : natAbs (pos 2 *ℤ (r *ℤ pos b -ℤ a)) ≤ b
+  pub half : distance r a b ≤ b
 
 pub near-half : (a : ℤ) (b : ℕ) → 0 < b → Half (nearest a b) a b
-near-half a b h =
-    let l = bounds a b h in
-    record { half = abs-le b (is-mul (is-nat 2) (is-minus (is-scale b (is-parts (nearest a b))) (is-parts a))) (omega arith) (omega arith) }
+near-half a b h = record { half = is-law a b h .half }
 
 -- two sides of the half step, over the naturals
 pub half-sides : {r a : ℤ} {b x y p n : ℕ} → Half r a b → Is r x y → Is a p n
@@ -47,14 +114,14 @@ half-sides {b} w R A =
     let l = of-abs-le b (is-mul (is-nat 2) (is-minus (is-scale b R) A)) (w .half) in
     omega arith
 
--- x is at most y, from b x being below b y and b more
-pub less : (b : ℕ) {x y : ℕ} → b * x < b * (y + 1) → x ≤ y
-less b {x} {y} h = let l : x < y + 1 = lt-of-mul-lt-mul-left b h in omega arith
-
 pub near-mono : {a c : ℤ} (b : ℕ) → 0 < b → a ≤ℤ c → nearest a b ≤ℤ nearest c b
-near-mono {a} {c} b h k =
-    let l = bounds a b h in let m = bounds c b h in let o = of-le (is-parts a) (is-parts c) k in
-    is-le (is-parts (nearest a b)) (is-parts (nearest c b)) (less (2 * b) (omega arith))
+unfolding nearest
+near-mono {a = pos m} {c = pos n} b h k = pos-mono (size-mono b h (omega (arith, of-le (is-nat m) (is-nat n) k)))
+near-mono {a = negsuc m} {c = pos n} b h k = is-le (is-neg (is-nat (nearestSize (suc m) b))) (is-nat (nearestSize n b)) (omega arith)
+near-mono {a = negsuc m} {c = negsuc n} b h k =
+    let l = size-mono {m = suc n} {n = suc m} b h (omega (arith, of-le (is-parts (negsuc m)) (is-parts (negsuc n)) k)) in
+    is-le (is-neg (is-nat (nearestSize (suc m) b))) (is-neg (is-nat (nearestSize (suc n) b))) (omega (arith, l))
+near-mono {a = pos m} {c = negsuc n} b h k = absurd (k .le)
 
 -- two numerators at most m b apart give numbers at most m + 1 apart
 pub near-slope : (a c : ℤ) (b m : ℕ) → 0 < b → natAbs (a -ℤ c) ≤ m * b → natAbs (nearest a b -ℤ nearest c b) ≤ m + 1
@@ -90,26 +157,18 @@ half-size {r} {a} {b} m h l w =
 pub near-size : (a : ℤ) {b : ℕ} (m : ℕ) → 0 < b → natAbs a ≤ m * b → natAbs (nearest a b) ≤ m
 near-size a {b} m h l = half-size m h l (near-half a b h)
 
--- document 01's own example
-minus-half : nearest (negsuc 0) 2 ≡ pos 0
+-- document 01's example, −1/2, as R-6 has it
+minus-half : nearest (negsuc 0) 2 ≡ negsuc 0
 unfolding nearest
 minus-half = refl
 
 -- ---- what the code computes
-pub at-nonnegative : (a : ℤ) (b : ℕ) → ltZ a (pos 0) ≡ false → pos ((2 * natAbs a + b) / (2 * b)) ≡ nearest a b
+pub at-nonnegative : (a : ℤ) (b : ℕ) → ltZ a (pos 0) ≡ false → pos (nearestSize (natAbs a) b) ≡ nearest a b
 unfolding nearest
 at-nonnegative (pos n) b e = refl
 at-nonnegative (negsuc n) b e = absurd (subst T e tt)
 
-quotient-law : (m k : ℕ) → 0 < k → (m / k * k ≤ m) × (m < m / k * k + k)
-quotient-law m k h = let l : m < m / k * k + k = lt-div-mul-add h in omega (arith, mul-div-le m k)
-
-pub at-negative : (a : ℤ) (b : ℕ) → 0 < b → ltZ a (pos 0) ≡ true → negℤ (pos ((2 * natAbs a + (b - 1)) / (2 * b))) ≡ nearest a b
-at-negative (pos n) b h e = absurd (not-below-0 n e)
-at-negative (negsuc n) b h e =
-    let q = (2 * suc n + (b - 1)) / (2 * b) in
-    let l = bounds (negsuc n) b h in let m = quotient-law (2 * suc n + (b - 1)) (2 * b) (omega arith) in
-    let r = nearest (negsuc n) b in
-    let u : q + up r ≤ down r = less (2 * b) (omega arith) in
-    let d : down r ≤ q + up r = less (2 * b) (omega arith) in
-    is-eq (is-neg (is-nat q)) (is-parts r) (omega arith)
+pub at-negative : (a : ℤ) (b : ℕ) → ltZ a (pos 0) ≡ true → negℤ (pos (nearestSize (natAbs a) b)) ≡ nearest a b
+unfolding nearest
+at-negative (pos n) b e = absurd (not-below-0 n e)
+at-negative (negsuc n) b e = refl

@@ -1,12 +1,13 @@
--- What the contract of `rounding::near` cites: the nearest whole number, document 01's `near(a/b)`. Assumes nothing.
-use Prim.Native.Nat.{ℕ, _*_, _/_}
-use lib.IntN.{ℤ, pos, negsuc, _+ℤ_, _*ℤ_}
+-- What the contract of `rounding::near` cites: the nearest whole number, document 01's `near(a/b)`, with the halves of document 02's R-6.
+-- Assumes nothing.
+use Prim.Native.Nat.{ℕ, suc, _+_, _*_, _/_}
+use lib.IntN.{ℤ, pos, negsuc, negℤ}
 
--- a / b rounded down, b above 0: −(n + 1) / b lies from −(n / b + 1) up to, not at, −(n / b)
-abbrev pub floor : ℤ → ℕ → ℤ
-floor (pos n) b = pos (n / b)
-floor (negsuc n) b = negsuc (n / b)
+-- of a size m: the nearest whole number to m / b, b above 0, a half going up, which is away from zero: m / b + 1/2 rounded down
+abbrev pub nearestSize : ℕ → ℕ → ℕ
+nearestSize m b = (2 * m + b) / (2 * b)
 
--- the nearest whole number to a / b, b above 0, a half going up: a / b + 1/2 rounded down
+-- the nearest whole number to a / b, b above 0, a half going away from zero: the size is rounded and the sign stays; `negsuc n` is −(n + 1)
 unfoldable pub nearest : ℤ → ℕ → ℤ
-nearest a b = floor (pos 2 *ℤ a +ℤ pos b) (2 * b)
+nearest (pos n) b = pos (nearestSize n b)
+nearest (negsuc n) b = negℤ (pos (nearestSize (suc n) b))

@@ -1,8 +1,8 @@
 // Rounding to the nearest whole number, and the signed arithmetic that the crates above build on.
 ghost use mathlib.Core.Path.{_≡_};
-ghost use Prim.Native.Nat.{_+_, _*_, _/_, _<_, _≤_};
+ghost use Prim.Native.Nat.{_*_, _<_, _≤_};
 ghost use lib.IntN.{natAbs, pos, _*ℤ_};
-ghost use Rattle.rounding.specs.Near.{nearest};
+ghost use Rattle.rounding.specs.Near.{nearest, nearestSize};
 use crate::signed::magnitude;
 use crate::signed::negative;
 use crate::signed::positive;
@@ -11,26 +11,25 @@ use crate::signed::product;
 pub mod signed;
 pub mod widths;
 
-// Document 01's near(a/b): the nearest whole number to a / b, a half going up.
+// Document 01's near(a/b): the nearest whole number to a / b, a half going away from 0.
 pub fn near(a: i64, b: u64) -> i64
     requires { ⌜ (natAbs a ≤ 4000000000000000000) × (0 < b) × (b ≤ 1000000000000000000) ⌝ }
     ensures { λ r. ⌜ r ≡ nearest a b ⌝ }
 {
     // The size is taken where the sign is known, so that the compiler need not test it again.
     if a < 0 {
-        // A half goes up, which is toward 0 here.
-        negative(quotient(magnitude(a), b - 1, b))
+        negative(quotient(magnitude(a), b))
     } else {
-        positive(quotient(magnitude(a), b, b))
+        positive(quotient(magnitude(a), b))
     }
 }
 
-// (2m + half) / 2b rounded down: the one division of a rounding.
-fn quotient(m: u64, half: u64, b: u64) -> u64
-    requires { ⌜ (m ≤ 4000000000000000000) × (half ≤ b) × (0 < b) × (b ≤ 1000000000000000000) ⌝ }
-    ensures { λ r. ⌜ r ≡ (2 * m + half) / (2 * b) ⌝ }
+// m / b rounded, a half going up: the one division of a rounding, for both signs.
+fn quotient(m: u64, b: u64) -> u64
+    requires { ⌜ (m ≤ 4000000000000000000) × (0 < b) × (b ≤ 1000000000000000000) ⌝ }
+    ensures { λ r. ⌜ r ≡ nearestSize m b ⌝ }
 {
-    (2 * m + half) / (2 * b)
+    (2 * m + b) / (2 * b)
 }
 
 // a b / d rounded, the form of every rounded step of document 01.

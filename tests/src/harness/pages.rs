@@ -105,7 +105,7 @@ pub fn check_page(owed: &OwedPage, page: &Page) -> Result<(), String> {
 const COLUMNS: [&str; 3] = ["wet", "dry", "difference"];
 
 /// Values whose figures are easily wrong.
-const VALUES: [i64; 6] = [-10_000, -5_001, -5_000, -4_000, 4_999, 5_000];
+const VALUES: [i64; 6] = [-10_000, -5_000, -4_999, -4_000, 4_999, 5_000];
 
 impl Tally {
     /// One call: N and its name, a buffer, and how many bytes there are to put.

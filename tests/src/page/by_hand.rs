@@ -146,10 +146,10 @@ fn zero_and_span() -> OwedPage {
     owed("zero and span", bench::sheet(), &events, 2, lines)
 }
 
-/// Readings next to a half and at it, which goes up, on both sides of zero.
+/// Readings next to a half and at it, which goes away from zero, on both sides of zero.
 fn around_nothing() -> OwedPage {
-    let below = [-2_000_000, -995_001, -995_000, -15_001, -15_000, -10_000, -6_000];
-    let nothing = [-5_001, -5_000, -4_000, -1, 0, 4_999, 5_000];
+    let below = [-2_000_000, -995_000, -994_999, -15_000, -14_999, -10_000, -6_000];
+    let nothing = [-5_000, -4_999, -4_000, -1, 0, 4_999, 5_000];
     let above = [14_999, 15_000, 994_999, 995_000, 1_000_000, 99_999_999, 100_000_000];
     let events = [below, nothing, above].concat().into_iter().map(sample).collect::<Vec<Event>>();
     let lines = "no wet dry diff\n2 -2.00 -2.00\n3 -1.00 -1.00\n4 -0.99 -0.99\n\
@@ -161,23 +161,23 @@ fn around_nothing() -> OwedPage {
     owed("around nothing", plain_sheet(), &events, 7, lines)
 }
 
-/// Wet less Cr that is −4,000, −5,000, −5,001, −10,000, 5,000 and 4,999, in this order: R is
+/// Wet less Cr that is −4,000, −5,000, −4,999, −10,000, 5,000 and 4,999, in this order: R is
 /// 80,000,000, a quarter of K, so that V adds V − near(V / 4).
 pub fn differences() -> OwedPage {
-    let raws = [-5_333, -6_667, -6_668, -13_333, 6_667, 6_665];
+    let raws = [-5_333, -6_667, -6_665, -13_333, 6_667, 6_665];
     let events = [&[against(80_000_000)], &raws.map(sample)[..]].concat();
-    let lines = "no wet dry diff\n3 80.00 80.00 0.00\n4 80.00 80.00 0.00\n\
-                 5 79.99 79.99 -0.01\n6 79.99 79.99 -0.01\n\
+    let lines = "no wet dry diff\n3 80.00 80.00 0.00\n4 80.00 80.00 -0.01\n\
+                 5 80.00 80.00 0.00\n6 79.99 79.99 -0.01\n\
                  7 80.01 80.01 0.01\n8 80.00 80.00 0.00";
     owed("differences around nothing", plain_sheet(), &events, 6, lines)
 }
 
-/// The same differences against cylinders of 10, 5, 6, 10, 10 and 11, whose signal is 1, which
+/// The same differences against cylinders of 10, 5, 4, 10, 10 and 11, whose signal is 1, which
 /// reads 15: the signal is 1 + V, and 15 times that is wet.
 pub fn faint_cylinders() -> OwedPage {
-    let pairs = [(10, -267), (5, -334), (6, -334), (10, -667), (10, 333), (11, 333)];
+    let pairs = [(10, -267), (5, -334), (4, -334), (10, -667), (10, 333), (11, 333)];
     let events = pairs.map(|(cylinder, raw)| [against(cylinder), sample(raw)]).concat();
-    let lines = "no wet dry diff\n3 0.00 0.00 0.00\n5 0.00 0.00 0.00\n7 0.00 0.00 -0.01\n\
+    let lines = "no wet dry diff\n3 0.00 0.00 0.00\n5 0.00 0.00 -0.01\n7 0.00 0.00 0.00\n\
                  9 -0.01 -0.01 -0.01\n11 0.01 0.01 0.01\nno wet dry diff\n13 0.01 0.01 0.00";
     owed("faint cylinders", bench::sheet(), &events, 5, lines)
 }

@@ -21,7 +21,7 @@ pub struct Author<'a> {
 
 impl<'a> Author<'a> {
     pub fn new(random: &'a mut Random, profile: &'a Profile) -> Author<'a> {
-        let rooms = (0..random.between(1, 3)).map(|_| numbers::room(random)).collect();
+        let rooms = (0..random.between(1, 3)).map(|_| room(random, profile)).collect();
         let session = Session::default();
         Author { random, profile, session, state: State::fresh(), rooms }
     }
@@ -54,6 +54,8 @@ impl<'a> Author<'a> {
                 self.random.percent(self.profile.edge) && (number > 0 || self.random.percent(20));
             let sheet = if bad {
                 numbers::bad_sheet(self.random)
+            } else if self.round() {
+                numbers::round_sheet(self.random)
             } else {
                 numbers::good_sheet(self.random)
             };
@@ -124,6 +126,10 @@ impl<'a> Author<'a> {
 
     fn edge(&mut self) -> bool {
         self.random.percent(self.profile.edge)
+    }
+
+    fn round(&mut self) -> bool {
+        self.random.percent(self.profile.round)
     }
 
     fn load(&mut self) -> Event {
@@ -249,9 +255,7 @@ impl<'a> Author<'a> {
         let (mut raw, mut cylinder) = (self.any_raw(), self.random.between(1, limit));
         if let Some(sheet) = self.state.sheet.filter(|_| air.within_limits()) {
             let v = self.target(&sheet, &air).max(1);
-            let s = self.random.between(rules::SPAN_LOWEST, rules::SPAN_HIGHEST);
-            let s = if self.random.percent(self.profile.below) { rules::SPAN_LOWEST } else { s };
-            let s = if self.edge() { self.random.pick(&[500_000, 2_000_000]) } else { s };
+            let s = self.span_aimed_at();
             raw = self.held(self.state.q + v * rules::SPAN_UNIT / s);
             let signal = rules::signal_from_raw(raw, self.state.q, s);
             cylinder = rules::absolute_reading(&sheet, &air, signal).unwrap_or(limit).max(1);
@@ -261,6 +265,18 @@ impl<'a> Author<'a> {
         }
         let (p, t, e) = fields(&air);
         Event::Span { raw: raw as i32, cylinder: cylinder as u32, p, t, e }
+    }
+
+    fn span_aimed_at(&mut self) -> i64 {
+        if self.edge() {
+            self.random.pick(&[rules::SPAN_LOWEST, rules::SPAN_HIGHEST])
+        } else if self.random.percent(self.profile.below) {
+            rules::SPAN_LOWEST
+        } else if self.round() {
+            self.random.pick(&[750_000, 1_250_000, 1_500_000])
+        } else {
+            self.random.between(rules::SPAN_LOWEST, rules::SPAN_HIGHEST)
+        }
     }
 
     fn reference(&mut self) -> Event {
@@ -273,6 +289,8 @@ impl<'a> Author<'a> {
         if let Some(sheet) = self.state.sheet.filter(|_| air.within_limits()) {
             let v = if self.random.percent(self.profile.below) {
                 self.random.between(0, 20)
+            } else if self.round() {
+                sheet.k / self.random.pick(&[4, 8, 16])
             } else {
                 self.target(&sheet, &air.with_vapour(e))
             };
@@ -307,6 +325,14 @@ pub(super) fn raw_of(state: &State, sheet: &Sheet, air: &Air, target: i64) -> Op
 
 pub(super) fn fields(air: &Air) -> (u32, u32, u32) {
     (air.p as u32, air.t as u32, air.e as u32)
+}
+
+fn room(random: &mut Random, profile: &Profile) -> Air {
+    if random.percent(profile.round) {
+        numbers::round_room(random)
+    } else {
+        numbers::room(random)
+    }
 }
 
 fn running(dice: u64, setting: u8) -> u8 {

@@ -1,7 +1,7 @@
 //! Invented sessions: lessons as a class would give them, the limits and one beside
-//! them, signals over range by every ground, noise around zero, flat lines, hostile kinds,
-//! padding and fields, damaged headers and lengths, long integrations, and lists with hardly
-//! an accepted event. `plans` and `faults` invent what a writer of session files is
+//! them, signals over range by every ground, noise around zero, flat lines, halves at every
+//! rounding, hostile kinds, padding and fields, damaged headers and lengths, long integrations,
+//! and lists with hardly an accepted event. `plans` and `faults` invent what a writer of session files is
 //! given, and `pages` has sessions whose figures are hard to round.
 
 mod author;
@@ -32,6 +32,9 @@ pub struct Profile {
     below: u64,
     /// A sample is the same as the last one.
     steady: u64,
+    /// Sheets, rooms, spans and reference gases have round numbers, whose ratios leave a half
+    /// at one rounding or another.
+    round: u64,
     /// An event of any kind stands where a lesson would have another.
     stray: u64,
     /// A number is any that its field can hold.
@@ -51,17 +54,19 @@ const LESSON: Profile = Profile {
     over: 1,
     below: 6,
     steady: 0,
+    round: 0,
     stray: 3,
     wild: 0,
     spoilt: 0,
     damaged: 0,
 };
 
-pub const PROFILES: [Profile; 9] = [
+pub const PROFILES: [Profile; 10] = [
     LESSON,
     Profile { name: "limits", weight: 24, edge: 30, over: 12, stray: 8, wild: 1, ..LESSON },
     Profile { name: "zero gas", weight: 12, edge: 20, over: 0, below: 80, ..LESSON },
     Profile { name: "flat line", weight: 6, below: 20, steady: 90, ..LESSON },
+    Profile { name: "halves", weight: 8, below: 50, round: 100, ..LESSON },
     Profile {
         name: "hostile",
         weight: 12,

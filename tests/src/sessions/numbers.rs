@@ -62,6 +62,18 @@ pub fn good_sheet(random: &mut Random) -> SheetRecord {
     }
 }
 
+/// A sheet with round numbers: products with them leave a half of 10^7, of T0 or of K.
+pub fn round_sheet(random: &mut Random) -> SheetRecord {
+    SheetRecord {
+        a1: 5_000_000 * random.between(1, 40) as i32,
+        a2: random.pick(&[0, 0, 5_000_000, 15_000_000]),
+        a3: random.pick(&[0, 0, 500_000, 2_500_000]),
+        t0: random.pick(&[28_000, 30_000, 32_000]),
+        k: random.pick(&[120_000_000, 160_000_000, 200_000_000]),
+        rest: 0,
+    }
+}
+
 /// A good sheet with one number just outside its limits, or with a byte too many.
 pub fn bad_sheet(random: &mut Random) -> SheetRecord {
     let good = good_sheet(random);
@@ -82,6 +94,14 @@ pub fn room(random: &mut Random) -> Air {
     let t = if usual { random.between(28_815, 31_315) } else { random.between(27_315, 32_315) };
     let e = if random.percent(30) { 0 } else { random.between(0, p / 10) };
     Air { p, t, e }
+}
+
+/// Air with round numbers. In the first three, 10,130,000 / D is 1, 5/4 and 25/16; in the fourth
+/// D / (100 P) is 21/20, and in the last P / (P − e) is 11/10.
+pub fn round_room(random: &mut Random) -> Air {
+    let rooms = [(101_300, 0), (81_040, 0), (64_832, 0), (114_000, 10_000), (110_000, 10_000)];
+    let (p, e) = random.pick(&rooms);
+    Air { p, t: random.pick(&[28_000, 30_000, 31_500]), e }
 }
 
 /// The same air with one of its numbers at a limit or one beside it.

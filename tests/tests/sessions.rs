@@ -224,8 +224,8 @@ fn halves_on_both_sides_of_zero() {
     let mut met: BTreeMap<(&str, bool), u32> = BTreeMap::new();
     for session in sound() {
         each_sample(&session, |state, raw, air, answer| {
-            let all = roundings(state, raw, air).into_iter().filter(|_| answer.refusal == 0);
-            for (name, a, b) in all.filter(|(_, a, b)| 2 * a.abs() % (2 * b) == *b) {
+            let accepted = roundings(state, raw, air).into_iter().filter(|_| answer.refusal == 0);
+            for (name, a, _) in accepted.filter(|(_, a, b)| 2 * a.abs() % (2 * b) == *b) {
                 *met.entry((name, a < 0)).or_default() += 1;
             }
         });
@@ -234,7 +234,8 @@ fn halves_on_both_sides_of_zero() {
         let [above, below] = [false, true].map(|below| met.get(&(name, below)).unwrap_or(&0));
         println!("halves at {name}: {above} above zero, {below} below");
         let below_zero_too = !["h2", "h1"].contains(&name);
-        assert!(*above >= 100 && (*below >= 100) == below_zero_too, "{name}: {above}, {below}");
+        let least = if below_zero_too { above.min(below) } else { above };
+        assert!(*least >= 20 && (*below > 0) == below_zero_too, "{name}: {above}, {below}");
     }
 }
 

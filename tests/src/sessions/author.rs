@@ -243,6 +243,8 @@ impl<'a> Author<'a> {
         } else {
             (self.target(sheet, air), 0)
         };
+        // A raw signal aimed at a whole signal against a round reference leaves no half.
+        let beside = if self.round() { self.random.between(-2, 2) } else { beside };
         match raw_of(&self.state, sheet, air, target) {
             Some(raw) => self.held(raw + beside),
             None => self.any_raw(),
@@ -290,7 +292,7 @@ impl<'a> Author<'a> {
             let v = if self.random.percent(self.profile.below) {
                 self.random.between(0, 20)
             } else if self.round() {
-                sheet.k / self.random.pick(&[4, 8, 16])
+                sheet.k / self.random.pick(&[2, 4, 8])
             } else {
                 self.target(&sheet, &air.with_vapour(e))
             };

@@ -64,9 +64,9 @@ const LESSON: Profile = Profile {
 pub const PROFILES: [Profile; 10] = [
     LESSON,
     Profile { name: "limits", weight: 24, edge: 30, over: 12, stray: 8, wild: 1, ..LESSON },
-    Profile { name: "zero gas", weight: 12, edge: 20, over: 0, below: 80, ..LESSON },
+    Profile { name: "zero gas", weight: 14, edge: 20, over: 0, below: 80, ..LESSON },
     Profile { name: "flat line", weight: 6, below: 20, steady: 90, ..LESSON },
-    Profile { name: "halves", weight: 8, below: 50, round: 100, ..LESSON },
+    Profile { name: "halves", weight: 12, below: 50, round: 100, ..LESSON },
     Profile {
         name: "hostile",
         weight: 12,

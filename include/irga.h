@@ -182,10 +182,10 @@ uint8_t irga_lines(const uint8_t *file, size_t file_length,
  * right-aligned in 6 columns; then wet, dry and wet less the reference cylinder in umol/mol,
  * with two decimals, each right-aligned in 14 columns; then spaces. In absolute mode the
  * last of the three is blank. Each figure is rounded by itself, as the engine rounds, to the
- * nearest and a half going away from 0; one that rounds to nothing is 0.00 without a sign. A
- * header line of the same columns (no, wet, dry, diff) stands before the first sample line,
- * and after every header_every of them if more follow. Without an accepted sample the page
- * is empty. No zero byte ends it.
+ * nearest hundredth, a half going away from zero: 0.005 is 0.01 and -0.005 is -0.01. One that
+ * rounds to nothing is 0.00 without a sign. A header line of the same columns (no, wet, dry,
+ * diff) stands before the first sample line, and after every header_every of them if more
+ * follow. Without an accepted sample the page is empty. No zero byte ends it.
  *
  * file, file_length   the session file
  * header_every        how many sample lines stand under a header line, 1 to 999

@@ -190,12 +190,13 @@ fn around_zero_through_the_program() {
 }
 
 /// Document 02's R-6: under the lowest span a raw unit is half a unit of signal, and one and a half
-/// and two and a half go away from zero, too. On the plain sheet a reading is its signal, and
-/// against 80,000,000, a quarter of K, it is R + V − near(V / 4).
+/// and two and a half go away from zero, too; half a unit below the lowest signal is too low. On
+/// the plain sheet a reading is its signal, and against 80,000,000, a quarter of K, it is
+/// R + V − near(V / 4).
 #[test]
 fn halves_through_the_program() {
     let quarter = [Event::Load { index: 1 }, Event::Reference { cylinder: 80_000_000, e: 0 }];
-    let steps = [1, -1, 3, -3, 5, -5].map(sample);
+    let steps = [1, -1, 3, -3, 5, -5, -4_000_000, -4_000_001].map(sample);
     let shares = [2, -2, 6, -6].map(sample);
     let events = [&[LOAD, span(80_000_000)][..], &steps, &quarter, &shares].concat();
     let expected = "1 1 0 0 0 0\n\
@@ -206,12 +207,14 @@ fn halves_through_the_program() {
                     6 6 0 0 -30 -30\n\
                     7 6 0 0 45 45\n\
                     8 6 0 0 -45 -45\n\
-                    9 1 0 0 0 0\n\
-                    10 4 0 0 0 0\n\
-                    11 6 0 80000000 80000001 80000001\n\
-                    12 6 0 80000000 79999999 79999999\n\
-                    13 6 0 80000000 80000004 80000004\n\
-                    14 6 0 80000000 79999996 79999996\n";
+                    9 6 0 0 -30000000 -30000000\n\
+                    10 6 7 0 0 0\n\
+                    11 1 0 0 0 0\n\
+                    12 4 0 0 0 0\n\
+                    13 6 0 80000000 80000001 80000001\n\
+                    14 6 0 80000000 79999999 79999999\n\
+                    15 6 0 80000000 80000004 80000004\n\
+                    16 6 0 80000000 79999996 79999996\n";
     assert_eq!(printed(&[bench::sheet(), plain_sheet()], &events), expected);
 }
 

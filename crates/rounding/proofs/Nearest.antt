@@ -38,6 +38,7 @@ apart : {z : ℤ} {p n : ℕ} (k : ℕ) → Is z p n → p + k ≡ n → natAbs 
 apart {z = pos a} k h e = omega arith
 apart {z = negsuc a} k h e = omega arith
 
+-- 2 (r b − m), whose size is the distance of r from m / b
 twice : {r : ℤ} {x y : ℕ} (m b : ℕ) → Is r x y → Is (pos 2 *ℤ (r *ℤ pos b -ℤ pos m)) (2 * (x * b)) (2 * (y * b) + 2 * m)
 twice {x} {y} m b R = is-shift (2 * (x * b)) (2 * (y * b) + 2 * m) (is-mul (is-nat 2) (is-minus (is-scale b R) (is-nat m))) (omega arith)
 

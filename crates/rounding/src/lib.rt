@@ -11,7 +11,7 @@ use crate::signed::product;
 pub mod signed;
 pub mod widths;
 
-// Document 01's near(a/b): the nearest whole number to a / b, a half going away from 0.
+// Document 01's near(a/b) with R-6's halves: the nearest whole number to a / b, a half going away from zero.
 pub fn near(a: i64, b: u64) -> i64
     requires { ⌜ (natAbs a ≤ 4000000000000000000) × (0 < b) × (b ≤ 1000000000000000000) ⌝ }
     ensures { λ r. ⌜ r ≡ nearest a b ⌝ }
@@ -24,7 +24,7 @@ pub fn near(a: i64, b: u64) -> i64
     }
 }
 
-// m / b rounded, a half going up: the one division of a rounding, for both signs.
+// The size m / b rounded, a half going up: the one division of a rounding, for both signs.
 fn quotient(m: u64, b: u64) -> u64
     requires { ⌜ (m ≤ 4000000000000000000) × (0 < b) × (b ≤ 1000000000000000000) ⌝ }
     ensures { λ r. ⌜ r ≡ nearestSize m b ⌝ }

@@ -191,6 +191,15 @@ pub fn rounded_by_itself() -> OwedPage {
     owed("a difference is rounded by itself", plain_sheet(), &events, 40, lines)
 }
 
+/// A half above zero whose difference from a cylinder of whole hundredths is a half below zero:
+/// 0.995 and 0.005 less 1.00, and 1.005 less 1.00 beside them. R is 1,000,000 and V has a share of
+/// V / 320: −15.675, −3,119.12 and 15.675.
+fn halves_across_zero() -> OwedPage {
+    let events = [&[against(1_000_000)], &[-5_016, -998_119, 5_016].map(sample)[..]].concat();
+    let lines = "no wet dry diff\n3 1.00 1.00 -0.01\n4 0.01 0.01 -1.00\n5 1.01 1.01 0.01";
+    owed("halves across zero", plain_sheet(), &events, 40, lines)
+}
+
 /// At raw −1,057,000 z is −1,013,000, f −15,195,000, wet −16,061,115 and dry −17,845,683; at −300
 /// they are −288, −4,320, −4,566 and −5,073.
 fn damp_below_zero() -> OwedPage {
@@ -250,7 +259,7 @@ pub fn longest() -> Session {
 pub fn pages() -> Vec<OwedPage> {
     let mut pages = vec![example(), bench_readings(), references(), zero_and_span()];
     pages.extend([around_nothing(), differences(), faint_cylinders(), rounded_by_itself()]);
-    pages.extend([damp_below_zero(), far_figures()]);
+    pages.extend([halves_across_zero(), damp_below_zero(), far_figures()]);
     pages.extend(headers());
     pages.extend(empty());
     pages

@@ -7,7 +7,7 @@
 //! are the other side of demand 3: equation (11) in exact fractions and the ledger that
 //! walks beside the engine. `random` and `sessions` invent lessons and plans, `hostile`
 //! spoils one thing at a time, and `harness` compares an engine or a writer with this one
-//! over many of them. `bench` holds the
+//! over many of them. `roundings` takes a sample's roundings one by one. `bench` holds the
 //! readings and the maker's table that the papers give, and `worst` looks for the
 //! readings with the largest errors. `drift` sets the old program's area beside ours,
 //! and `figures` writes numbers for tables. `sources` reads the proved crates' own code,
@@ -35,6 +35,7 @@ pub mod pace;
 pub mod page;
 pub mod plan;
 pub mod random;
+pub mod roundings;
 pub mod rules;
 pub mod sessions;
 pub mod sources;

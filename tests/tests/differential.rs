@@ -4,10 +4,10 @@
 use std::fs;
 use std::path::{Path, PathBuf};
 
-use irga_tests::engine::Mode;
 use irga_tests::file::{self, Outcome, Session};
 use irga_tests::harness::{areas, Campaign, Executable, Program};
 use irga_tests::random::Random;
+use irga_tests::roundings::{self, Rounding, ROUNDINGS};
 use irga_tests::rules::{self, Air};
 use irga_tests::sessions;
 
@@ -47,7 +47,7 @@ fn right_engine_passes() {
 
 /// Checks that an engine that spoils the right run is caught, that the message says
 /// why, and that the failing session is kept in the file that the message names.
-fn caught(seed: u64, says: &str, spoil: fn(&[u8], &mut [u8], &mut Outcome)) {
+fn caught(seed: u64, says: &str, spoil: impl Fn(&[u8], &mut [u8], &mut Outcome)) {
     let mut wrong = |file: &[u8], output: &mut [u8]| {
         let mut outcome = file::run(file, output);
         spoil(file, output, &mut outcome);
@@ -179,55 +179,57 @@ fn other_rules_for_the_area_are_caught() {
     });
 }
 
-/// An engine that rounds V by another rule, wherever the sample is then read as well.
-fn signals_by(rule: fn(i128, i128) -> i128, file: &[u8], output: &mut [u8], outcome: &Outcome) {
+/// An engine that rounds by another rule in the samples that it accepts.
+fn rounded_by(
+    rule: impl Fn(Rounding, i128, i128) -> i128,
+    file: &[u8],
+    output: &mut [u8],
+    outcome: &Outcome,
+) {
     let Some(session) = Session::open(file).filter(|_| outcome.status == 0) else {
         return;
     };
-    for ((state, answer), (at, record)) in session.walk().zip(session.events.iter().enumerate()) {
-        let Some(sheet) = state.sheet.filter(|_| answer.kind == 6 && answer.refusal == 0) else {
-            continue;
-        };
-        let air = Air { p: record.p.into(), t: record.t.into(), e: record.e.into() };
-        let above_zero = i128::from(record.raw) - i128::from(state.q);
-        let v = rule(above_zero * i128::from(state.s), i128::from(rules::SPAN_UNIT)) as i64;
-        let signal = match state.mode {
-            Mode::Absolute => v,
-            Mode::Reference { .. } => rules::signal_against(v, answer.m.into(), sheet.k),
-        };
-        if let Ok(wet) = rules::absolute_reading(&sheet, &air, signal) {
-            let x = 24 * at + 8;
-            output[x..x + 8].copy_from_slice(&wet.to_le_bytes());
-            output[x + 8..x + 16].copy_from_slice(&rules::dry_value(wet, &air).to_le_bytes());
+    let answers = output.chunks_exact_mut(24);
+    for (((state, answer), record), bytes) in session.walk().zip(&session.events).zip(answers) {
+        if answer.kind == 6 && answer.refusal == 0 {
+            let air = Air { p: record.p.into(), t: record.t.into(), e: record.e.into() };
+            let [wet, dry] = roundings::values(&state, record.raw.into(), &air, &answer, &rule);
+            bytes[8..16].copy_from_slice(&wet.to_le_bytes());
+            bytes[16..].copy_from_slice(&dry.to_le_bytes());
         }
     }
 }
 
-/// Document 02's R-6: halves that go up, as before it; to the even number; toward zero. With its own
-/// rule the engine is right.
+/// Rules for a half: up, as before R-6; to the even number; toward zero.
+const OTHER_HALVES: [fn(i128, i128) -> i128; 3] = [
+    |a, b| (2 * a + b).div_euclid(2 * b),
+    |a, b| {
+        let (down, rest) = (a.div_euclid(b), a.rem_euclid(b));
+        down + i128::from(2 * rest > b || (2 * rest == b && down % 2 != 0))
+    },
+    |a, b| a.signum() * ((2 * a.abs() + b - 1) / (2 * b)),
+];
+
+/// Document 02's R-6: an engine with another rule for a half, at one of its roundings alone. Halves
+/// that go up are right where nothing is below zero. With R-6's rule everywhere the engine is right.
 #[test]
 fn other_rules_for_a_half_are_caught() {
     let mut right = |file: &[u8], output: &mut [u8]| {
         let outcome = file::run(file, output);
-        signals_by(rules::near, file, output, &outcome);
+        rounded_by(|_, a, b| rules::near(a, b), file, output, &outcome);
         outcome
     };
     few(61).against_engine(&mut right).unwrap_or_else(|why| panic!("{why}"));
-    caught(61, "answer", |file, output, outcome| {
-        let up = |a: i128, b: i128| (2 * a + b).div_euclid(2 * b);
-        signals_by(up, file, output, outcome);
-    });
-    caught(62, "answer", |file, output, outcome| {
-        let even = |a: i128, b: i128| {
-            let (down, rest) = (a.div_euclid(b), a.rem_euclid(b));
-            down + i128::from(2 * rest > b || (2 * rest == b && down % 2 != 0))
-        };
-        signals_by(even, file, output, outcome);
-    });
-    caught(63, "answer", |file, output, outcome| {
-        let toward_zero = |a: i128, b: i128| a.signum() * ((2 * a.abs() + b - 1) / (2 * b));
-        signals_by(toward_zero, file, output, outcome);
-    });
+    for spoilt in ROUNDINGS {
+        let others = &OTHER_HALVES[usize::from(!spoilt.below_zero_too())..];
+        for other in others {
+            let rule = |rounding: Rounding, a: i128, b: i128| {
+                let near = if rounding == spoilt { *other } else { rules::near };
+                near(a, b)
+            };
+            caught(61, "answer", |file, output, outcome| rounded_by(rule, file, output, outcome));
+        }
+    }
 }
 
 struct WrongProgram(fn(String) -> String);

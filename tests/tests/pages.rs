@@ -245,6 +245,9 @@ fn wrong_rules() -> Vec<Wrong> {
         wrong_figures("halves that go up", |value| {
             decimal((2 * value + 10_000).div_euclid(20_000), 2)
         }),
+        wrong_figures("halves that go toward zero", |value| {
+            decimal(value.signum() * ((2 * value.abs() + 9_999) / 20_000), 2)
+        }),
         wrong_figures("halves that go to the even figure", |value| {
             let (down, rest) = (value.div_euclid(10_000), value.rem_euclid(10_000));
             let up = rest > 5_000 || (rest == 5_000 && down % 2 != 0);

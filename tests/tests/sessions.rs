@@ -9,7 +9,8 @@ use irga_tests::exact::{self, Fraction};
 use irga_tests::file::{self, EventRecord, Session};
 use irga_tests::harness::areas;
 use irga_tests::hostile;
-use irga_tests::rules::{self, Air, Steps};
+use irga_tests::roundings::{self, Rounding, ROUNDINGS};
+use irga_tests::rules::{self, Air};
 use irga_tests::sessions;
 
 /// Some thousands of them, made once.
@@ -66,24 +67,19 @@ fn every_kind_with_a_raw_signal_meets_its_highest_bit() {
     }
 }
 
-/// The reference signal of a sample that is read against one; none in absolute mode.
-fn reference(state: &State, air: &Air) -> Option<i64> {
-    let Mode::Reference { cylinder, e } = state.mode else {
-        return None;
-    };
-    let sheet = state.sheet.expect("a loaded sheet");
-    let r = rules::reference_signal(&sheet, cylinder, &air.with_vapour(e));
-    Some(r.expect("a reference signal"))
-}
-
 /// The signal at which a sample is read, rounded and exact.
 fn signals(state: &State, raw: i64, air: &Air) -> (i64, Fraction) {
-    let k = state.sheet.expect("a loaded sheet").k;
+    let sheet = state.sheet.expect("a loaded sheet");
     let v = rules::signal_from_raw(raw, state.q, state.s);
     let exact_v = exact::signal_from_raw(raw, state.q, state.s);
-    match reference(state, air) {
-        None => (v, exact_v),
-        Some(r) => (rules::signal_against(v, r, k), exact::signal_against(&exact_v, r, k)),
+    match state.mode {
+        Mode::Absolute => (v, exact_v),
+        Mode::Reference { cylinder, e } => {
+            let r = rules::reference_signal(&sheet, cylinder, &air.with_vapour(e));
+            let r = r.expect("a reference signal");
+            let exact_signal = exact::signal_against(&exact_v, r, sheet.k);
+            (rules::signal_against(v, r, sheet.k), exact_signal)
+        }
     }
 }
 
@@ -196,46 +192,28 @@ fn signals_around_zero() {
     assert!(absolute.seam == 0 && against.seam >= 50, "{absolute:?}, {against:?}");
 }
 
-/// What a sample rounds, in document 01's order: V, its share in R, the steps of the curve and the
-/// dry value, each with what is divided by what. Below zero h2 and h1 have no part in it.
-fn roundings(state: &State, raw: i64, air: &Air) -> Vec<(&'static str, i128, i128)> {
-    let sheet = state.sheet.expect("a loaded sheet");
-    let (d, ten_to_7) = (air.broadened(), 10_000_000);
-    let v = rules::signal_from_raw(raw, state.q, state.s);
-    let (signal, _) = signals(state, raw, air);
-    let Steps { z, h2, h1, f, g, c } = rules::steps(&sheet, air, signal);
-    let mut all = vec![("V", raw - state.q, state.s, rules::SPAN_UNIT)];
-    all.extend(reference(state, air).map(|r| ("share", v, r, sheet.k)));
-    all.push(("z", 100 * rules::P0, signal, d));
-    if signal >= 0 {
-        all.extend([("h2", sheet.a3, z, ten_to_7), ("h1", h2, z, ten_to_7)]);
-    }
-    all.push(("f", z, if signal < 0 { sheet.a1 } else { h1 }, ten_to_7));
-    all.extend([("g", f, d, 100 * air.p), ("wet", g, air.t, sheet.t0)]);
-    all.push(("dry", c, air.p, air.p - air.e));
-    let wide = i128::from;
-    all.into_iter().map(|(name, x, y, b)| (name, wide(x) * wide(y), wide(b))).collect()
-}
-
 /// Document 02's R-6: every rounding of an accepted sample meets halves, on both sides of zero
 /// where it has both.
 #[test]
 fn halves_on_both_sides_of_zero() {
-    let mut met: BTreeMap<(&str, bool), u32> = BTreeMap::new();
+    let mut met: BTreeMap<(Rounding, bool), u32> = BTreeMap::new();
     for session in sound() {
         each_sample(&session, |state, raw, air, answer| {
-            let accepted = roundings(state, raw, air).into_iter().filter(|_| answer.refusal == 0);
-            for (name, a, _) in accepted.filter(|(_, a, b)| 2 * a.abs() % (2 * b) == *b) {
-                *met.entry((name, a < 0)).or_default() += 1;
+            if answer.refusal == 0 {
+                let values = roundings::values(state, raw, air, answer, |rounding, a, b| {
+                    let half = 2 * a.abs() % (2 * b) == b;
+                    *met.entry((rounding, a < 0)).or_default() += u32::from(half);
+                    rules::near(a, b)
+                });
+                assert_eq!(values, [answer.x, answer.y]);
             }
         });
     }
-    for name in ["V", "share", "z", "h2", "h1", "f", "g", "wet", "dry"] {
-        let [above, below] = [false, true].map(|below| met.get(&(name, below)).unwrap_or(&0));
-        println!("halves at {name}: {above} above zero, {below} below");
-        let below_zero_too = !["h2", "h1"].contains(&name);
-        let least = if below_zero_too { above.min(below) } else { above };
-        assert!(*least >= 20 && (*below > 0) == below_zero_too, "{name}: {above}, {below}");
+    for rounding in ROUNDINGS {
+        let [above, below] = [false, true].map(|below| *met.get(&(rounding, below)).unwrap_or(&0));
+        println!("halves at {rounding:?}: {above} above zero, {below} below");
+        let least = if rounding.below_zero_too() { above.min(below) } else { above };
+        assert!(least >= 20, "{rounding:?}: {above}, {below}");
     }
 }
 

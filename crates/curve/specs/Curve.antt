@@ -1,5 +1,5 @@
 -- The rounded steps of document 01, "Curve and absolute reading", from a signal to its wet and dry value. Each step has the
--- name of what it stands for, and document 01's letter beside it. `nearest` is document 01's near. Assumes nothing.
+-- name of what it stands for, and document 01's letter beside it. `nearest` is document 01's near, with R-6's halves. Assumes nothing.
 use Prim.Native.Nat.{ℕ, _+_, _*_, _-_}
 use mathlib.Core.Bool.{Bool, cond}
 use lib.IntN.{ℤ, pos, _+ℤ_, _*ℤ_}

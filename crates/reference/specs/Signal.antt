@@ -1,5 +1,5 @@
 -- The signals of document 01, "Reference signal and span": from raw, and against a reference. `nearest` is document 01's
--- near. Assumes nothing.
+-- near, with R-6's halves. Assumes nothing.
 use Prim.Native.Nat.{ℕ}
 use lib.IntN.{ℤ, pos, _+ℤ_, _-ℤ_, _*ℤ_}
 use Rattle.rounding.specs.Near.{nearest}

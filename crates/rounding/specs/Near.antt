@@ -7,7 +7,8 @@ use lib.IntN.{ℤ, pos, negsuc, negℤ}
 abbrev pub nearestSize : ℕ → ℕ → ℕ
 nearestSize m b = (2 * m + b) / (2 * b)
 
--- the nearest whole number to a / b, b above 0, a half going away from zero: the size is rounded and the sign stays; `negsuc n` is −(n + 1)
+-- the nearest whole number to a / b, b above 0, a half going away from zero: the size is rounded, and below zero its negative is taken;
+-- `negsuc n` is −(n + 1)
 unfoldable pub nearest : ℤ → ℕ → ℤ
 nearest (pos n) b = pos (nearestSize n b)
 nearest (negsuc n) b = negℤ (pos (nearestSize (suc n) b))

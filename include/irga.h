@@ -123,7 +123,7 @@ enum irga_refusal {
     IRGA_NO_SPAN = 5,              /* no span serves, or one below the lowest would */
     IRGA_INPUT_LIMITS = 6,         /* raw signal, pressure, temperature or vapour pressure
                                       outside its limits, the reference gas's included */
-    IRGA_BELOW_ZERO = 7,           /* the signal is below -2,000,000 */
+    IRGA_BELOW_ZERO = 7,           /* the rounded signal is below -2,000,000 */
     IRGA_OVER_RANGE = 8,           /* the signal or the mole fraction is over range */
     IRGA_NO_REFERENCE_SIGNAL = 9,  /* no signal reads the reference cylinder */
     IRGA_NOT_NOW = 10,             /* the event does not fit the mode or the integration */
@@ -182,10 +182,12 @@ uint8_t irga_lines(const uint8_t *file, size_t file_length,
  * right-aligned in 6 columns; then wet, dry and wet less the reference cylinder in umol/mol,
  * with two decimals, each right-aligned in 14 columns; then spaces. In absolute mode the
  * last of the three is blank. Each figure is rounded by itself, as the engine rounds, to the
- * nearest hundredth, a half going away from zero: 0.005 is 0.01 and -0.005 is -0.01. One that
- * rounds to nothing is 0.00 without a sign. A header line of the same columns (no, wet, dry,
- * diff) stands before the first sample line, and after every header_every of them if more
- * follow. Without an accepted sample the page is empty. No zero byte ends it.
+ * nearest hundredth, a half going away from zero: 0.005 is 0.01 and -0.005 is -0.01. So the
+ * last is rounded from the unrounded difference: a wet value of 0.995 against a cylinder of
+ * 1.00 is 1.00, and its difference -0.01. A figure that rounds to nothing is 0.00 without a
+ * sign. A header line of the same columns (no, wet, dry, diff) stands before the first sample
+ * line, and after every header_every of them if more follow. Without an accepted sample the
+ * page is empty. No zero byte ends it.
  *
  * file, file_length   the session file
  * header_every        how many sample lines stand under a header line, 1 to 999

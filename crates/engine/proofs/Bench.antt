@@ -16,11 +16,12 @@ use Rattle.rules.specs.declared.State.{State}
 use Rattle.counting.specs.declared.Integration.{Integration}
 use Rattle.rules.specs.declared.Answer.{Answer}
 use Rattle.rules.specs.declared.Stepped.{Stepped}
-use Rattle.rules.specs.Sample.{sampledOf}
 use Rattle.counting.specs.Integration.{emptyTally, countedOf, tallyArea}
 use Rattle.sampling.specs.Sample.{sampledOn}
 use Rattle.sampling.specs.Span.{settingOf, spannedOn}
-use Rattle.rules.specs.Rules.{answered, withIntegration, spanBy, areaAnswer, rules}
+use Rattle.rules.specs.Rules.{answered, spanBy}
+use Rattle.events.specs.Sample.{sampledOf}
+use Rattle.events.specs.Events.{withIntegration, areaAnswer, rules}
 use Rattle.engine.specs.Bench.{benchState, referenceState, countedOnce, sample, start, area, Answers, after, StarredCases}
 
 -- twice the sum X without the first, X, less nothing, where n − 1 is 0

@@ -12,7 +12,8 @@ use Rattle.rules.specs.declared.State.{State}
 use Rattle.rules.specs.declared.Event.{Event}
 use Rattle.rules.specs.declared.Entry.{Entry}
 use Rattle.rules.specs.Answer.{refusalOf, accepted}
-use Rattle.rules.specs.Rules.{refused, loadBy, rules}
+use Rattle.rules.specs.Rules.{refused, loadBy}
+use Rattle.events.specs.Events.{rules}
 use Rattle.rules.specs.Limits.{workable}
 use Rattle.engine.specs.Step.{stepOf}
 use Rattle.engine.specs.Laws.{loadAt, isLoad, SeesLookup, LoadForgets}

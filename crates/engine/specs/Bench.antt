@@ -16,7 +16,8 @@ use Rattle.rules.specs.declared.Event.{Event}
 use Rattle.rules.specs.declared.Entry.{Entry}
 use Rattle.rules.specs.declared.Answer.{Answer}
 use Rattle.rules.specs.Answer.{refusalOf}
-use Rattle.rules.specs.Rules.{answered, withIntegration, idleWith, rules}
+use Rattle.rules.specs.Rules.{answered, idleWith}
+use Rattle.events.specs.Events.{withIntegration, rules}
 
 -- ---- states: Q 0, S 1,000,000 unless said, idle
 

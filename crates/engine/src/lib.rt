@@ -1,24 +1,24 @@
 // Document 01, "Engine and events": one step.
 ghost use mathlib.Core.Path.{_≡_};
 ghost use mathlib.Core.Bool.{true};
-ghost use Rattle.rules.specs.Rules.{eventRule};
+ghost use Rattle.events.specs.Events.{eventRule};
 ghost use Rattle.rules.specs.Limits.{workable as Limits·workable};
 ghost use Rattle.engine.specs.Step.{stepOf};
 use crate::limits::workable;
+use events::area;
+use events::malformed;
+use events::sample;
+use events::start;
+use events::stop;
 use rules::Entry;
 use rules::Event;
 use rules::State;
 use rules::Stepped;
 use rules::kinds::absolute;
-use rules::kinds::area;
 use rules::kinds::load;
-use rules::kinds::malformed;
 use rules::kinds::reference;
 use rules::kinds::refuse;
-use rules::kinds::sample;
 use rules::kinds::span;
-use rules::kinds::start;
-use rules::kinds::stop;
 use rules::kinds::zero;
 
 mod limits;

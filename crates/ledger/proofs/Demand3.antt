@@ -9,7 +9,8 @@ use native.Mathlib.Omega.{arith}
 use lib.IntN.{ℤ}
 use Rattle.rules.specs.declared.State.{State}
 use Rattle.rules.specs.declared.Entry.{Entry}
-use Rattle.rules.specs.Rules.{rules, fresh}
+use Rattle.rules.specs.Rules.{fresh}
+use Rattle.events.specs.Events.{rules}
 use Rattle.engine.specs.Transcript.{transcript, leaves}
 use Rattle.engine.proofs.Laws.{by-rules}
 use Rattle.ledger.specs.Ledger.{Ledger, freshLedger}

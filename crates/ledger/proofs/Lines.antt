@@ -23,9 +23,10 @@ use Rattle.rules.specs.declared.Answer.{Answer}
 use Rattle.rules.specs.declared.Stepped.{Stepped}
 use Rattle.counting.specs.Integration.{tallyArea}
 use Rattle.sampling.specs.Sample.{modeWithin}
-use Rattle.rules.specs.Rules.{answered, refused, rules}
+use Rattle.rules.specs.Rules.{answered, refused}
 use Rattle.rules.specs.Limits.{loadedWithin, workable}
-use Rattle.rules.proofs.Inversion.{wet-in}
+use Rattle.events.specs.Events.{rules}
+use Rattle.events.proofs.Inversion.{wet-in}
 use Rattle.engine.proofs.Cases.{closing, Ruled, refuses, malformed, loads, zeroes, spans, refers, absolute, samples, closes, starts, stops, totals, ruled}
 use Rattle.ledger.specs.Ledger.{Ledger, withSeries, taken, exactValue, refusedBy, ledgerStep}
 use Rattle.ledger.specs.Wets.{wetsStep}

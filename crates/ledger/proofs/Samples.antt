@@ -25,10 +25,10 @@ use Rattle.sampling.proofs.Within.{input-ok, reference-air-ok}
 use Rattle.sampling.proofs.Inversion.{AcceptedOn}
 use Rattle.rules.specs.declared.Loaded.{Loaded}
 use Rattle.rules.specs.declared.State.{State}
-use Rattle.rules.specs.Sample.{searchedUnder, findingOf}
 use Rattle.rules.specs.Limits.{loadedWithin}
 use Rattle.rules.proofs.Workable.{sheet-in}
-use Rattle.rules.proofs.Inversion.{AcceptedIn}
+use Rattle.events.specs.Sample.{searchedUnder, findingOf}
+use Rattle.events.proofs.Inversion.{AcceptedIn}
 use Rattle.ledger.specs.Ledger.{Ledger, exactValue}
 use Rattle.ledger.specs.Claim.{AtSignal, SampleHolds}
 

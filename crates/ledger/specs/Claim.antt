@@ -21,7 +21,8 @@ use Rattle.rules.specs.declared.Entry.{Entry}
 use Rattle.rules.specs.declared.Answer.{Answer}
 use Rattle.rules.specs.Answer.{refusalOf, mOf, xOf, yOf}
 use Rattle.sampling.specs.Sample.{airOf, referenceAir}
-use Rattle.rules.specs.Rules.{rules, fresh, answered}
+use Rattle.rules.specs.Rules.{fresh, answered}
+use Rattle.events.specs.Events.{rules}
 use Rattle.rules.specs.Limits.{workable}
 use Rattle.engine.specs.Step.{stepOf}
 use Rattle.engine.specs.Transcript.{Line, transcript, leaves}

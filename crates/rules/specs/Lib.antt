@@ -1,4 +1,3 @@
 pub mod Answer
-pub mod Sample
 pub mod Rules
 pub mod Limits

@@ -7,7 +7,8 @@
 //! are the other side of demand 3: equation (11) in exact fractions and the ledger that
 //! walks beside the engine. `random` and `sessions` invent lessons and plans, `hostile`
 //! spoils one thing at a time, and `harness` compares an engine or a writer with this one
-//! over many of them. `roundings` takes a sample's roundings one by one. `bench` holds the
+//! over many of them. `roundings` takes a sample's roundings one by one, `store` keeps what the
+//! last search found, and `altered` has the text of the program of that name. `bench` holds the
 //! readings and the maker's table that the papers give, and `worst` looks for the
 //! readings with the largest errors. `drift` sets the old program's area beside ours,
 //! and `figures` writes numbers for tables. `sources` reads the proved crates' own code,
@@ -16,6 +17,7 @@
 
 #![deny(unsafe_code)]
 
+pub mod altered;
 pub mod archive;
 pub mod bench;
 pub mod big;
@@ -39,5 +41,6 @@ pub mod roundings;
 pub mod rules;
 pub mod sessions;
 pub mod sources;
+pub mod store;
 pub mod trial;
 pub mod worst;

@@ -10,6 +10,7 @@ use irga_tests::random::Random;
 use irga_tests::roundings::{self, Rounding, ROUNDINGS};
 use irga_tests::rules::{self, Air};
 use irga_tests::sessions;
+use irga_tests::store::{self, Fault, FAULTS};
 
 fn folder() -> &'static Path {
     Path::new(env!("CARGO_TARGET_TMPDIR"))
@@ -229,6 +230,31 @@ fn other_rules_for_a_half_are_caught() {
             };
             caught(61, "answer", |file, output, outcome| rounded_by(rule, file, output, outcome));
         }
+    }
+}
+
+/// An engine that stores what its last search found, by the paper's rules or by wrong ones.
+fn stored_by(fault: Option<Fault>, file: &[u8], output: &mut [u8], outcome: &Outcome) {
+    let Some(session) = Session::open(file).filter(|_| outcome.status == 0) else {
+        return;
+    };
+    for ((_, _, answer), bytes) in store::walk(&session, fault).zip(output.chunks_exact_mut(24)) {
+        bytes.copy_from_slice(&file::answer_to_bytes(&answer));
+    }
+}
+
+/// Document 02's R-7: a store by its rules shows in no answer, and one that keeps a finding too
+/// long, or takes it at another pressure or temperature, does.
+#[test]
+fn wrong_stores_are_caught() {
+    let mut right = |file: &[u8], output: &mut [u8]| {
+        let outcome = file::run(file, output);
+        stored_by(None, file, output, &outcome);
+        outcome
+    };
+    few(62).against_engine(&mut right).unwrap_or_else(|why| panic!("{why}"));
+    for fault in FAULTS {
+        caught(62, "answer", |file, output, outcome| stored_by(Some(fault), file, output, outcome));
     }
 }
 

@@ -12,6 +12,7 @@ use irga_tests::hostile;
 use irga_tests::roundings::{self, Rounding, ROUNDINGS};
 use irga_tests::rules::{self, Air};
 use irga_tests::sessions;
+use irga_tests::store::{self, Finding, Stored};
 
 /// Some thousands of them, made once.
 fn files() -> &'static [Vec<u8>] {
@@ -214,6 +215,119 @@ fn halves_on_both_sides_of_zero() {
         println!("halves at {rounding:?}: {above} above zero, {below} below");
         let least = if rounding.below_zero_too() { above.min(below) } else { above };
         assert!(least >= 20, "{rounding:?}: {above}, {below}");
+    }
+}
+
+/// What the sessions meet of R-7's store, counted by samples against a reference whose inputs pass
+/// check 6.
+#[derive(Debug, Default)]
+struct StoreMet {
+    /// They take what is stored: any, "nothing" among them, and those where the event before was
+    /// an accepted zero, a refused reference, or a sample refused with 6.
+    taken: u32,
+    nothing_taken: u32,
+    after_zero: u32,
+    after_refused_reference: u32,
+    after_6: u32,
+    /// They search: with nothing stored, at another P alone, T alone, or both, and at a P and T
+    /// that an earlier search had since the store was last emptied.
+    searched_empty: u32,
+    other_p: u32,
+    other_t: u32,
+    other_both: u32,
+    returned: u32,
+    /// They store and are refused with 7, 8 or 9, and a later sample takes what they stored.
+    stored_refused: [u32; 3],
+    taken_from_refused: [u32; 3],
+    /// They search at the P and T that were stored until a load, a reference or an absolute
+    /// emptied it.
+    emptied: [u32; 3],
+}
+
+/// What is to be known of the events before a sample to count it.
+#[derive(Default)]
+struct StoreWalk {
+    /// Kind and refusal of the event before.
+    last: (u8, u8),
+    /// P and T of the searches since the store was last emptied.
+    searches: Vec<(i64, i64)>,
+    /// The refusal of the sample that stored what is stored.
+    stored_by: u8,
+    /// What stood stored when it was last emptied, and the kinds that have emptied since.
+    emptied: Option<Finding>,
+    kinds: Vec<u8>,
+}
+
+impl StoreMet {
+    fn take(&mut self, finding: &Finding, walk: &StoreWalk) {
+        self.taken += 1;
+        self.nothing_taken += u32::from(finding.found.is_none());
+        self.after_zero += u32::from(walk.last == (2, 0));
+        self.after_refused_reference += u32::from(walk.last.0 == 4 && walk.last.1 != 0);
+        self.after_6 += u32::from(walk.last == (6, 6));
+        if let 7..=9 = walk.stored_by {
+            self.taken_from_refused[usize::from(walk.stored_by - 7)] += 1;
+        }
+    }
+
+    fn search(&mut self, stored: Stored, air: &Air, refusal: u8, walk: &StoreWalk) {
+        match stored.map(|finding| (finding.p == air.p, finding.t == air.t)) {
+            None => self.searched_empty += 1,
+            Some((false, true)) => self.other_p += 1,
+            Some((true, false)) => self.other_t += 1,
+            Some(_) => self.other_both += 1,
+        }
+        self.returned += u32::from(walk.searches.contains(&(air.p, air.t)));
+        if let 7..=9 = refusal {
+            self.stored_refused[usize::from(refusal - 7)] += 1;
+        }
+        let alike = walk.emptied.is_some_and(|old| (old.p, old.t) == (air.p, air.t));
+        for (count, kind) in self.emptied.iter_mut().zip([1, 4, 5]) {
+            *count += u32::from(stored.is_none() && alike && walk.kinds.contains(&kind));
+        }
+    }
+
+    /// Walks a session with a store beside the engine.
+    fn count(&mut self, session: &Session) {
+        let mut walk = StoreWalk::default();
+        for ((state, stored, answer), record) in store::walk(session, None).zip(&session.events) {
+            let against = matches!(state.mode, Mode::Reference { .. }) && state.sheet.is_some();
+            let checked = matches!(answer.refusal, 0 | 7 | 8 | 9);
+            if answer.kind == 6 && against && checked {
+                let air = Air { p: record.p.into(), t: record.t.into(), e: record.e.into() };
+                match stored.filter(|finding| (finding.p, finding.t) == (air.p, air.t)) {
+                    Some(finding) => self.take(&finding, &walk),
+                    None => {
+                        self.search(stored, &air, answer.refusal, &walk);
+                        walk.searches.push((air.p, air.t));
+                        (walk.stored_by, walk.emptied) = (answer.refusal, None);
+                    }
+                }
+            }
+            if matches!((answer.kind, answer.refusal), (1 | 4 | 5, 0)) {
+                if stored.is_some() {
+                    (walk.emptied, walk.kinds) = (stored, Vec::new());
+                }
+                walk.kinds.push(answer.kind);
+                walk.searches.clear();
+            }
+            walk.last = (answer.kind, answer.refusal);
+        }
+    }
+}
+
+/// Document 02's R-7: pressure and temperature stay, alternate and return, around every event that
+/// empties the store or leaves it.
+#[test]
+fn findings_stored_taken_and_emptied() {
+    let mut met = StoreMet::default();
+    sound().for_each(|session| met.count(&session));
+    println!("{met:#?}");
+    assert!(met.taken >= 10_000 && met.nothing_taken >= 100, "{met:?}");
+    let left = [met.after_zero, met.after_refused_reference, met.after_6];
+    let searched = [met.searched_empty, met.other_p, met.other_t, met.other_both, met.returned];
+    for counts in [&left[..], &searched, &met.stored_refused, &met.taken_from_refused, &met.emptied] {
+        assert!(counts.iter().all(|count| *count >= 50), "{met:?}");
     }
 }
 

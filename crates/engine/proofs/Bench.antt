@@ -8,9 +8,12 @@ use Rattle.rounding.proofs.Difference.{is-nat, is-add, is-minus, is-scale, is-p
 use Rattle.curve.specs.Limits.{airWithin}
 use Rattle.curve.specs.Curve.{reducedOf, slope2Of, slope1Of, cubicOf, straightOf, moistOf, warmOf, wetOf, dryOf}
 use Rattle.curve.specs.Absolute.{absoluteOf}
+use Rattle.curve.specs.Bench.{benchAir}
 use Rattle.curve.proofs.Bench.{starred-readings}
 use Rattle.reference.specs.declared.Found.{Found}
 use Rattle.reference.specs.Signal.{signalOf, againstOf}
+use Rattle.reference.specs.Search.{referenceRefusal, referenceOf}
+use Rattle.reference.specs.Bench.{smallSheet}
 use Rattle.reference.proofs.Bench.{starred-references}
 use Rattle.rules.specs.declared.State.{State}
 use Rattle.counting.specs.declared.Integration.{Integration}
@@ -18,11 +21,13 @@ use Rattle.rules.specs.declared.Answer.{Answer}
 use Rattle.rules.specs.declared.Stepped.{Stepped}
 use Rattle.counting.specs.Integration.{emptyTally, countedOf, tallyArea}
 use Rattle.sampling.specs.Sample.{sampledOn}
+use Rattle.store.specs.declared.Stored.{Stored}
+use Rattle.store.specs.Store.{storedOn}
 use Rattle.sampling.specs.Span.{settingOf, spannedOn}
 use Rattle.rules.specs.Rules.{answered, spanBy}
 use Rattle.events.specs.Sample.{sampledOf}
-use Rattle.events.specs.Events.{withIntegration, areaAnswer, rules}
-use Rattle.engine.specs.Bench.{benchState, referenceState, countedOnce, sample, start, area, Answers, after, StarredCases}
+use Rattle.events.specs.Events.{withIntegration, sampleRead, areaAnswer, rules}
+use Rattle.engine.specs.Bench.{benchState, referenceState, smallState, foundThere, countedOnce, measuring, sample, start, area, Answers, after, StarredCases}
 
 -- twice the sum X without the first, X, less nothing, where n − 1 is 0
 one : (x : ℤ) → ((pos 0 +ℤ x) -ℤ x) *ℤ pos 2 -ℤ (x +ℤ x) *ℤ pos 0 ≡ pos 0
@@ -30,18 +35,30 @@ one x =
     let X = is-parts x in
     is-eq (is-minus (is-scale 2 (is-minus (is-add (is-nat 0) X) X)) (is-scale 0 (is-add X X))) (is-nat 0) (omega arith)
 
--- a sample against the reference, whatever the integration, which counts it: R is what the crate below says was found
-abbrev counting : Integration → State
-counting i = withIntegration referenceState i
+-- against the reference, whatever the integration, with this stored
+abbrev counting : Stored → Integration → State
+counting x i = withIntegration (referenceState x) i
 
+abbrev there : Stored
+there = foundThere (Found.At 40000000)
+
+-- a sample stores what the crate below says was found, unless it is stored already; then it is read with it, and counted
 module _ (i : Integration) where
-  low : rules [] (counting i) (sample (pos 0)) ≡ answered (Answer.Reading 40000000 (pos 1000000000) (pos 1000000000)) (counting (countedOf i (pos 1000000000)))
-  unfolding sampledOf sampledOn airWithin absoluteOf signalOf againstOf nearest reducedOf slope2Of slope1Of cubicOf moistOf warmOf wetOf dryOf
-  low = rw (starred-references .reference)
+  low-first : rules [] (counting Stored.Empty i) (sample (pos 0)) ≡ answered (Answer.Reading 40000000 (pos 1000000000) (pos 1000000000)) (counting there (countedOf i (pos 1000000000)))
+  unfolding storedOn sampledOf sampledOn airWithin absoluteOf signalOf againstOf nearest reducedOf slope2Of slope1Of cubicOf moistOf warmOf wetOf dryOf
+  low-first = rw (starred-references .reference)
 
-  high : rules [] (counting i) (sample (pos 10000000)) ≡ answered (Answer.Reading 40000000 (pos 1388160000) (pos 1388160000)) (counting (countedOf i (pos 1388160000)))
-  unfolding sampledOf sampledOn airWithin absoluteOf signalOf againstOf nearest reducedOf slope2Of slope1Of cubicOf moistOf warmOf wetOf dryOf
-  high = rw (starred-references .reference)
+  high-first : rules [] (counting Stored.Empty i) (sample (pos 10000000)) ≡ answered (Answer.Reading 40000000 (pos 1388160000) (pos 1388160000)) (counting there (countedOf i (pos 1388160000)))
+  unfolding storedOn sampledOf sampledOn airWithin absoluteOf signalOf againstOf nearest reducedOf slope2Of slope1Of cubicOf moistOf warmOf wetOf dryOf
+  high-first = rw (starred-references .reference)
+
+  low : rules [] (counting there i) (sample (pos 0)) ≡ answered (Answer.Reading 40000000 (pos 1000000000) (pos 1000000000)) (counting there (countedOf i (pos 1000000000)))
+  unfolding storedOn sampledOf sampledOn airWithin absoluteOf signalOf againstOf nearest reducedOf slope2Of slope1Of cubicOf moistOf warmOf wetOf dryOf
+  low = refl
+
+  high : rules [] (counting there i) (sample (pos 10000000)) ≡ answered (Answer.Reading 40000000 (pos 1388160000) (pos 1388160000)) (counting there (countedOf i (pos 1388160000)))
+  unfolding storedOn sampledOf sampledOn airWithin absoluteOf signalOf againstOf nearest reducedOf slope2Of slope1Of cubicOf moistOf warmOf wetOf dryOf
+  high = refl
 
 -- what is counted after a start and the first reading
 abbrev counted-1 : Integration
@@ -49,19 +66,24 @@ counted-1 = countedOf (Integration.Running emptyTally) (pos 1000000000)
 
 -- the state after a start and the three readings; the second sample is any that is read as wet, and counted
 three-state : (raw wet : ℤ)
-    → rules [] (counting counted-1) (sample raw) ≡ answered (Answer.Reading 40000000 wet wet) (counting (countedOf counted-1 wet))
-    → after referenceState (start ∷ sample (pos 0) ∷ sample raw ∷ sample (pos 0) ∷ []) ≡ counting (countedOf (countedOf counted-1 wet) (pos 1000000000))
+    → rules [] (counting there counted-1) (sample raw) ≡ answered (Answer.Reading 40000000 wet wet) (counting there (countedOf counted-1 wet))
+    → after (referenceState Stored.Empty) (start ∷ sample (pos 0) ∷ sample raw ∷ sample (pos 0) ∷ []) ≡ counting there (countedOf (countedOf counted-1 wet) (pos 1000000000))
 three-state raw wet e =
-    ap (λ (x : Stepped). after (x .state) (sample raw ∷ sample (pos 0) ∷ [])) (low (Integration.Running emptyTally))
+    ap (λ (x : Stepped). after (x .state) (sample raw ∷ sample (pos 0) ∷ [])) (low-first (Integration.Running emptyTally))
     ∙ ap (λ (x : Stepped). after (x .state) (sample (pos 0) ∷ [])) e
     ∙ ap (λ (x : Stepped). x .state) (low (countedOf counted-1 wet))
+
+-- refusal 9 is for nothing found
+nothing : (f : Found) → referenceRefusal f ≡ 9 → f ≡ Found.Nothing
+nothing (Found.At r) e = absurd (omega arith)
+nothing Found.Nothing e = refl
 
 -- a span on the bench sheet, by what was found
 abbrev spanned : Found → Stepped
 spanned f = spanBy benchState (settingOf f)
 
 pub starred-cases : StarredCases
-unfolding sampledOf sampledOn spannedOn areaAnswer tallyArea airWithin absoluteOf signalOf againstOf nearest reducedOf slope2Of slope1Of cubicOf straightOf moistOf warmOf wetOf dryOf
+unfolding storedOn sampledOf sampledOn spannedOn areaAnswer tallyArea airWithin absoluteOf signalOf againstOf nearest reducedOf slope2Of slope1Of cubicOf straightOf moistOf warmOf wetOf dryOf
 starred-cases =
     record {
       readings = starred-readings;
@@ -79,10 +101,10 @@ starred-cases =
       e-10001 = refl;
       e-10000 = (refl, refl);
       reference = refl;
-      raw-0 = low Integration.Idle;
-      raw-10000000 = high Integration.Idle;
+      raw-0 = low-first Integration.Idle;
+      raw-10000000 = high-first Integration.Idle;
       raw-minus = rw (starred-references .reference);
-      k-10000000 = rw (starred-references .k-10000000);
+      k-10000000 = ap (λ (f : Found). sampleRead (smallState (foundThere f)) (measuring (pos 0) 101300 29815 0)) (nothing (referenceOf smallSheet 1000000000 benchAir) (starred-references .k-10000000));
       span-800000 = ap spanned (starred-references .span-800000);
       span-2000000 = ap spanned (starred-references .span-2000000);
       span-beyond = rw (starred-references .span-beyond);

@@ -1,4 +1,5 @@
 pub mod Cases
+pub mod Stored
 pub mod Laws
 pub mod Bench
 pub mod Transcript

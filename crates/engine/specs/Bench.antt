@@ -5,11 +5,13 @@ use mathlib.Core.Path.{_≡_}
 use Prim.Native.Nat.{ℕ}
 use lib.IntN.{ℤ, pos, negsuc, negℤ}
 use Rattle.curve.specs.Bench.{benchSheet, StarredReadings}
+use Rattle.reference.specs.declared.Found.{Found}
 use Rattle.reference.specs.Bench.{smallSheet, StarredReferences}
 use Rattle.counting.specs.declared.Integration.{Integration}
 use Rattle.counting.specs.Integration.{emptyTally, countedOf}
 use Rattle.sampling.specs.declared.Mode.{Mode}
 use Rattle.sampling.specs.declared.Measurement.{Measurement}
+use Rattle.store.specs.declared.Stored.{Stored}
 use Rattle.rules.specs.declared.Loaded.{Loaded}
 use Rattle.rules.specs.declared.State.{State}
 use Rattle.rules.specs.declared.Event.{Event}
@@ -19,25 +21,29 @@ use Rattle.rules.specs.Answer.{refusalOf}
 use Rattle.rules.specs.Rules.{answered, idleWith}
 use Rattle.events.specs.Events.{withIntegration, rules}
 
--- ---- states: Q 0, S 1,000,000 unless said, idle
+-- ---- states: Q 0, S 1,000,000 unless said, idle, nothing stored unless said
 
 -- the bench sheet, absolute
 abbrev pub benchState : State
-benchState = idleWith (Loaded.One benchSheet) (pos 0) 1000000 Mode.Absolute
+benchState = idleWith (Loaded.One benchSheet) (pos 0) 1000000 Mode.Absolute Stored.Empty
 
 -- the same with another span
 abbrev pub spanState : ℕ → State
-spanState s = idleWith (Loaded.One benchSheet) (pos 0) s Mode.Absolute
+spanState s = idleWith (Loaded.One benchSheet) (pos 0) s Mode.Absolute Stored.Empty
 
--- against the reference 1,000,000,000 with e 0: the bench sheet, and the one with K 10,000,000
+-- against the reference 1,000,000,000 with e 0: the bench sheet, and the one with K 10,000,000, with this stored
 abbrev pub referenceMode : Mode
 referenceMode = Mode.Against (record { c = 1000000000; e = 0 })
 
-abbrev pub referenceState : State
-referenceState = idleWith (Loaded.One benchSheet) (pos 0) 1000000 referenceMode
+abbrev pub referenceState : Stored → State
+referenceState x = idleWith (Loaded.One benchSheet) (pos 0) 1000000 referenceMode x
 
-abbrev pub smallState : State
-smallState = idleWith (Loaded.One smallSheet) (pos 0) 1000000 referenceMode
+abbrev pub smallState : Stored → State
+smallState x = idleWith (Loaded.One smallSheet) (pos 0) 1000000 referenceMode x
+
+-- what was found at P 101,300, T 29,815
+abbrev pub foundThere : Found → Stored
+foundThere f = Stored.Last (record { p = 101300; t = 29815; found = f })
 
 -- the bench sheet, after a start, X counted
 abbrev pub countedOnce : ℤ → State
@@ -102,12 +108,19 @@ pub record StarredCases : Type 0 where
   pub e-2000 : Answers benchState (sampleIn (pos 40456000) 100000 29815 2000) (Answer.Reading 0 (pos 1034193379) (pos 1055299366))
   pub e-10001 : Answers benchState (sampleIn (pos 40456000) 100000 29815 10001) (Answer.Refused 6)
   pub e-10000 : Passes benchState (sampleIn (pos 40456000) 100000 29815 10000)
-  -- reference 1,000,000,000: R 40,000,000; raw 0, 10,000,000 and −10,000,000; with K 10,000,000 refusal 9
-  pub reference : AnswersLeaving benchState (Entry.Known (Event.Reference 1000000000 0)) Answer.Done referenceState
-  pub raw-0 : Answers referenceState (sample (pos 0)) (Answer.Reading 40000000 (pos 1000000000) (pos 1000000000))
-  pub raw-10000000 : Answers referenceState (sample (pos 10000000)) (Answer.Reading 40000000 (pos 1388160000) (pos 1388160000))
-  pub raw-minus : Answers referenceState (sample (negsuc 9999999)) (Answer.Reading 40000000 (pos 695040000) (pos 695040000))
-  pub k-10000000 : Answers smallState (sample (pos 0)) (Answer.Refused 9)
+  -- reference 1,000,000,000: R 40,000,000, which stays stored (R-7); raw 0, 10,000,000 and −10,000,000; with K 10,000,000 refusal 9, and that
+  -- nothing was found stays stored
+  pub reference : AnswersLeaving benchState (Entry.Known (Event.Reference 1000000000 0)) Answer.Done (referenceState Stored.Empty)
+  pub raw-0 :
+      AnswersLeaving (referenceState Stored.Empty) (sample (pos 0)) (Answer.Reading 40000000 (pos 1000000000) (pos 1000000000))
+      (referenceState (foundThere (Found.At 40000000)))
+  pub raw-10000000 :
+      AnswersLeaving (referenceState Stored.Empty) (sample (pos 10000000)) (Answer.Reading 40000000 (pos 1388160000) (pos 1388160000))
+      (referenceState (foundThere (Found.At 40000000)))
+  pub raw-minus :
+      AnswersLeaving (referenceState Stored.Empty) (sample (negsuc 9999999)) (Answer.Reading 40000000 (pos 695040000) (pos 695040000))
+      (referenceState (foundThere (Found.At 40000000)))
+  pub k-10000000 : AnswersLeaving (smallState Stored.Empty) (sample (pos 0)) (Answer.Refused 9) (smallState (foundThere Found.Nothing))
   -- span to 1,000,000,000: the answer, and the S that it leaves; refusal 5 leaves the old one
   pub span-800000 : AnswersLeaving benchState (spanTo (pos 50000000)) (Answer.Spanned 800000) (spanState 800000)
   pub span-2000000 : AnswersLeaving benchState (spanTo (pos 20000000)) (Answer.Spanned 2000000) (spanState 2000000)
@@ -116,9 +129,9 @@ pub record StarredCases : Type 0 where
   pub span-below : Answers benchState (spanTo (pos 90000000)) (Answer.Refused 5)
   -- a start, wet values 1,000,000,000, 1,388,160,000, 1,000,000,000, and the area (R-5)
   pub three-readings :
-      Answers (after referenceState (start ∷ sample (pos 0) ∷ sample (pos 10000000) ∷ sample (pos 0) ∷ [])) area (Answer.Area 3 (pos 776320000))
+      Answers (after (referenceState Stored.Empty) (start ∷ sample (pos 0) ∷ sample (pos 10000000) ∷ sample (pos 0) ∷ [])) area (Answer.Area 3 (pos 776320000))
   -- a steady 1,000,000,000 over three samples has no area (R-5)
-  pub flat-line : Answers (after referenceState (start ∷ sample (pos 0) ∷ sample (pos 0) ∷ sample (pos 0) ∷ [])) area (Answer.Area 3 (pos 0))
+  pub flat-line : Answers (after (referenceState Stored.Empty) (start ∷ sample (pos 0) ∷ sample (pos 0) ∷ sample (pos 0) ∷ [])) area (Answer.Area 3 (pos 0))
   -- one reading gives 0 (R-5): after a start and V 40,000,000, and after any X that was counted
   pub one-sample : Answers (after benchState (start ∷ sample (pos 40000000) ∷ [])) area (Answer.Area 1 (pos 0))
   pub one-reading : (x : ℤ) → Answers (countedOnce x) area (Answer.Area 1 (pos 0))

@@ -9,6 +9,7 @@ use rounding::signed::magnitude;
 use rules::Loaded;
 use rules::State;
 use sampling::mode_within;
+use store::stored_within;
 
 pub(crate) fn workable(st: State) -> bool
     ensures { λ r. ⌜ r ≡ Limits·workable st ⌝ }
@@ -16,6 +17,7 @@ pub(crate) fn workable(st: State) -> bool
     let loaded = st.loaded;
     let mode = st.mode;
     let integration = st.integration;
+    let stored = st.stored;
     if !loaded_within(loaded) {
         return false;
     }
@@ -28,7 +30,10 @@ pub(crate) fn workable(st: State) -> bool
     if !mode_within(mode) {
         return false;
     }
-    integration_within(integration)
+    if !integration_within(integration) {
+        return false;
+    }
+    stored_within(stored)
 }
 
 fn loaded_within(loaded: Loaded) -> bool

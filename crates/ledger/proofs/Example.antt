@@ -5,13 +5,16 @@ use Rattle.curve.specs.Limits.{sheetWithin}
 use Rattle.curve.specs.Bench.{benchSheet}
 use Rattle.fields.specs.Fields.{signed}
 use Rattle.layout.specs.Records.{sheetOf}
+use Rattle.reference.specs.declared.Found.{Found}
+use Rattle.store.specs.declared.Stored.{Stored}
+use Rattle.rules.specs.declared.State.{State}
 use Rattle.rules.specs.declared.Answer.{Answer}
 use Rattle.sheets.specs.declared.Lookup.{Lookup}
 use Rattle.sheets.specs.Sheets.{lookupOf}
 use Rattle.rules.specs.Rules.{fresh, answered, refused}
 use Rattle.rules.specs.Limits.{workable}
 use Rattle.engine.specs.Step.{stepOf}
-use Rattle.engine.specs.Bench.{benchState, referenceState}
+use Rattle.engine.specs.Bench.{benchState, referenceState, foundThere}
 use Rattle.engine.proofs.Bench.{starred-cases}
 use Rattle.ledger.specs.Example.{exampleSheets, exampleLoad, exampleReference, exampleSample, exampleArea, Example}
 
@@ -23,15 +26,19 @@ load : stepOf exampleSheets fresh exampleLoad ≡ answered Answer.Done benchStat
 unfolding stepOf workable
 load = rw sheet
 
-reference : stepOf exampleSheets benchState exampleReference ≡ answered Answer.Done referenceState
+reference : stepOf exampleSheets benchState exampleReference ≡ answered Answer.Done (referenceState Stored.Empty)
 unfolding stepOf workable sheetWithin
 reference = starred-cases .reference
 
-sample : stepOf exampleSheets referenceState exampleSample ≡ answered (Answer.Reading 40000000 (pos 1388160000) (pos 1388160000)) referenceState
+-- R stays stored
+abbrev sampled : State
+sampled = referenceState (foundThere (Found.At 40000000))
+
+sample : stepOf exampleSheets (referenceState Stored.Empty) exampleSample ≡ answered (Answer.Reading 40000000 (pos 1388160000) (pos 1388160000)) sampled
 unfolding stepOf workable sheetWithin
 sample = starred-cases .raw-10000000
 
-area : stepOf exampleSheets referenceState exampleArea ≡ refused referenceState 10
+area : stepOf exampleSheets sampled exampleArea ≡ refused sampled 10
 unfolding stepOf workable sheetWithin
 area = refl
 

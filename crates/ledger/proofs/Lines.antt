@@ -1,8 +1,8 @@
--- One event under the rules, from a state whose settings are within their limits and whose integration keeps to the ledger's
--- series: what the claim says of the answer holds, and the next state and ledger are such a pair again. Assumes nothing.
+-- One event under the rules, from a state whose settings are within their limits, whose integration keeps to the ledger's
+-- series, and whose stored finding is a search's: what the claim says of the answer holds, and the next state and ledger are such a pair again. Assumes nothing.
 use mathlib.Core.Bool.{Bool, true, false, cond}
 use mathlib.Core.List.{List, []}
-use mathlib.Core.Path.{_≡_, refl}
+use mathlib.Core.Path.{_≡_, refl, sym, _∙_}
 use Prim.Native.Nat.{ℕ, _≤_}
 use native.Mathlib.Omega.{arith}
 use borrow.Author.Tests.{le-leb, ne-eqb}
@@ -25,8 +25,11 @@ use Rattle.counting.specs.Integration.{tallyArea}
 use Rattle.sampling.specs.Sample.{modeWithin}
 use Rattle.rules.specs.Rules.{answered, refused}
 use Rattle.rules.specs.Limits.{loadedWithin, workable}
+use Rattle.store.specs.Store.{storedWithin}
+use Rattle.events.specs.Sample.{searchedFor, StoredIsSearched}
 use Rattle.events.specs.Events.{rules}
-use Rattle.events.proofs.Inversion.{wet-in}
+use Rattle.events.proofs.Inversion.{accepted-in, given-in, wet-in}
+use Rattle.events.proofs.Stored.{agrees-in, same-sample}
 use Rattle.engine.proofs.Cases.{closing, Ruled, refuses, malformed, loads, zeroes, spans, refers, absolute, samples, closes, starts, stops, totals, ruled}
 use Rattle.ledger.specs.Ledger.{Ledger, withSeries, taken, exactValue, refusedBy, ledgerStep}
 use Rattle.ledger.specs.Wets.{wetsStep}
@@ -45,11 +48,19 @@ pub record SettingsOk (loaded : Loaded) (q : ℤ) (s : ℕ) (mode : Mode) : Type
 abbrev pub Settings : State → Type 0
 Settings st = SettingsOk (st .loaded) (st .q) (st .s) (st .mode)
 
-pub workable-is : (st : State) {ws : List ℤ} {xs : List Fraction} {b : Bool} → Settings st → Keeps (st .integration) ws xs b → workable st ≡ true
+pub workable-is : (st : State) {ws : List ℤ} {xs : List Fraction} {b : Bool} → Settings st → Keeps (st .integration) ws xs b
+    → storedWithin (st .stored) ≡ true → workable st ≡ true
 unfolding workable
-workable-is st h k =
-    rw (h .sheet, le-leb (natAbs (st .q)) 20000000 (h .zero), le-leb 500000 (st .s) (h .span-low), le-leb (st .s) 2000000 (h .span-high), h .gas)
-    (keeps-within k)
+workable-is st h k f =
+    rw (
+      h .sheet,
+      le-leb (natAbs (st .q)) 20000000 (h .zero),
+      le-leb 500000 (st .s) (h .span-low),
+      le-leb (st .s) 2000000 (h .span-high),
+      h .gas,
+      keeps-within k,
+    )
+    f
 
 -- ---- a state, a ledger and the wet values answered that go together
 pub record Together (st : State) (g : Ledger) (ws : List ℤ) : Type 0 where
@@ -65,7 +76,8 @@ pub record Good (sheets : List ℕ) (g : Ledger) (ws : List ℤ) (entry : Entry)
   pub ledger : LedgerHolds g ws entry (r .answer)
   pub next : Together (r .state) (ledgerStep sheets g entry (r .answer)) (wetsStep (g .runs) ws entry (r .answer))
 
-module _ (sheets : List ℕ) (st : State) {ws : List ℤ} {xs : List Fraction} {b : Bool} (h : Settings st) (k : Keeps (st .integration) ws xs b) where
+module _ (sheets : List ℕ) (st : State) {ws : List ℤ} {xs : List Fraction} {b : Bool} (h : Settings st) (k : Keeps (st .integration) ws xs b)
+    (f : StoredIsSearched st) where
   abbrev g : Ledger
   g = ledgerAt st xs b
 
@@ -137,7 +149,8 @@ module _ (sheets : List ℕ) (st : State) {ws : List ℤ} {xs : List Fraction} {
   good (spans l u) = makes [] false tt tt (record { sheet = h .sheet; zero = h .zero; span-low = l; span-high = u; gas = h .gas }) idle refl
   good (refers e) = makes [] false tt tt (record { sheet = h .sheet; zero = h .zero; span-low = h .span-low; span-high = h .span-high; gas = e }) idle refl
   good absolute = makes [] false tt tt (record { sheet = h .sheet; zero = h .zero; span-low = h .span-low; span-high = h .span-high; gas = refl }) idle refl
-  good (samples {at} {r} x) =
+  good (samples {at} {r} y) =
+      let x = accepted-in st at (searchedFor st at) (sym (same-sample st at (agrees-in st at f)) ∙ given-in _ _ _ y) in
       let w = sample-worth st xs b (h .sheet) at x in
       let v = exactValue g at r in
       makes (takenAtEnd xs b v) (takenRuns xs b) tt (w .holds) h (keeps-counted k (w .near) (wet-in (h .sheet) x)) (taken-is v)

@@ -27,7 +27,7 @@ use Rattle.rules.specs.declared.Loaded.{Loaded}
 use Rattle.rules.specs.declared.State.{State}
 use Rattle.rules.specs.Limits.{loadedWithin}
 use Rattle.rules.proofs.Workable.{sheet-in}
-use Rattle.events.specs.Sample.{searchedUnder, findingOf}
+use Rattle.events.specs.Sample.{searchedUnder, searchedFor}
 use Rattle.events.proofs.Inversion.{AcceptedIn}
 use Rattle.ledger.specs.Ledger.{Ledger, exactValue}
 use Rattle.ledger.specs.Claim.{AtSignal, SampleHolds}
@@ -94,7 +94,7 @@ module _ (st : State) (xs : List Fraction) (b : Bool) (s : Sheet) (okS : SheetOk
 
 -- the sample under whatever is loaded, with what a search finds there
 pub sample-worth : (st : State) (xs : List Fraction) (b : Bool) → loadedWithin (st .loaded) ≡ true → (at : Measurement) {r : ℕ} {wet dry : ℤ}
-    → AcceptedIn st at (findingOf st at) r wet dry → Worth (ledgerAt st xs b) at r wet dry
+    → AcceptedIn st at (searchedFor st at) r wet dry → Worth (ledgerAt st xs b) at r wet dry
 sample-worth st xs b w at {r} {wet} {dry} x =
     let f = ap (λ (l : Loaded). searchedUnder l (st .mode) at) (x .loaded) in
     worth st xs b (x .sheet) (sheet-in w (x .loaded)) (x .loaded) at (st .mode) refl

@@ -6,6 +6,7 @@ use lib.IntN.{natAbs}
 use Rattle.curve.specs.Limits.{within, sheetWithin}
 use Rattle.counting.specs.Limits.{integrationWithin}
 use Rattle.sampling.specs.Sample.{modeWithin}
+use Rattle.store.specs.Store.{storedWithin}
 use Rattle.rules.specs.declared.Loaded.{Loaded}
 use Rattle.rules.specs.declared.State.{State}
 
@@ -16,4 +17,4 @@ loadedWithin (Loaded.One s) = sheetWithin s
 unfoldable pub workable : State → Bool
 workable st =
     loadedWithin (st .loaded) && leb (natAbs (st .q)) 20000000 && within 500000 2000000 (st .s) && modeWithin (st .mode)
-    && integrationWithin (st .integration)
+    && integrationWithin (st .integration) && storedWithin (st .stored)

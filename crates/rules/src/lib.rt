@@ -5,6 +5,7 @@ use counting::Integration;
 use curve::Sheet;
 use sampling::Measurement;
 use sampling::Mode;
+use store::Stored;
 
 pub mod kinds;
 
@@ -14,13 +15,14 @@ pub enum Loaded {
     One(Sheet),
 }
 
-// Zero is q, span is s.
+// Zero is q, span is s; what is stored is the last search's.
 pub struct State {
     pub loaded: Loaded,
     pub q: i64,
     pub s: u64,
     pub mode: Mode,
     pub integration: Integration,
+    pub stored: Stored,
 }
 
 // The nine kinds, each with its own fields at the file's widths.
@@ -69,5 +71,6 @@ pub fn fresh_state() -> State
         s: 1000000,
         mode: Mode::Absolute,
         integration: Integration::Idle,
+        stored: Stored::Empty,
     }
 }

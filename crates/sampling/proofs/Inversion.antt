@@ -62,6 +62,12 @@ module _ (s : Sheet) (q : ℤ) (span : ℕ) (at : Measurement) where
   unfolding sampledOn
   told mode f = of-check mode f (checkedOn mode at) refl
 
+-- and these are all that an accepted sample asks
+pub given : {s : Sheet} {q : ℤ} {span : ℕ} {mode : Mode} {at : Measurement} {f : Found} {r : ℕ} {wet dry : ℤ}
+    → AcceptedOn s q span mode at f r wet dry → sampledOn s q span mode at f ≡ Sampled.Value r wet dry
+unfolding sampledOn
+given x = rw (x .input, x .vapour, x .finding, x .wet-is, x .signal-is, x .dry-is)
+
 -- a refusal has a number of the list
 pub refused-number : {s : Sheet} {q : ℤ} {span : ℕ} {mode : Mode} {at : Measurement} {f : Found} {number : ℕ}
     → RefusedOn s q span mode at f number → (6 ≤ number) × (number ≤ 9)

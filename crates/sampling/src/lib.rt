@@ -65,21 +65,21 @@ pub fn mode_within(mode: Mode) -> bool
     }
 }
 
-// The values of a sample under a sheet, zero, span and mode. The reference is searched for only where check 6 is passed.
-pub fn sample_on(s: Sheet, q: i64, span: u64, mode: Mode, at: Measurement) -> Sampled
-    requires { ⌜ SheetOk s × (natAbs q ≤ 20000000) × (span ≤ 2000000) × (modeWithin mode ≡ true) ⌝ }
-    ensures { λ r. ⌜ r ≡ sampledOn s q span mode at (searchedOf s mode (airOf at)) ⌝ }
+// The values of a sample under a sheet, zero, span and mode, with what was found for the reference.
+pub fn sample_on(s: Sheet, q: i64, span: u64, mode: Mode, at: Measurement, finding: Found) -> Sampled
+    requires { ⌜ SheetOk s × (natAbs q ≤ 20000000) × (span ≤ 2000000) × (modeWithin mode ≡ true) × (foundValue finding ≤ 150000000) ⌝ }
+    ensures { λ r. ⌜ r ≡ sampledOn s q span mode at finding ⌝ }
 {
     if !inputs_within(mode, at) {
         return Sampled::Refused(6);
     }
     let a = air_of(at);
     let v = from_raw(wide(at.raw), q, span);
-    read(s, mode, v, a, searched(s, mode, a))
+    read(s, mode, v, a, finding)
 }
 
 // Check 6 of a sample: raw, P, T and e, and the reference's vapour pressure.
-fn inputs_within(mode: Mode, at: Measurement) -> bool
+pub fn inputs_within(mode: Mode, at: Measurement) -> bool
     requires { ⌜ modeWithin mode ≡ true ⌝ }
     ensures { λ r. ⌜ r ≡ checkedOn mode at ⌝ }
 {
@@ -106,7 +106,7 @@ fn vapour_within(mode: Mode, a: Air) -> bool
     }
 }
 
-fn air_of(at: Measurement) -> Air
+pub fn air_of(at: Measurement) -> Air
     ensures { λ r. ⌜ r ≡ airOf at ⌝ }
 {
     Air {
@@ -118,7 +118,7 @@ fn air_of(at: Measurement) -> Air
 
 // The reference signal is that of this P and T, in air with the cylinder's vapour pressure. In absolute mode nothing is
 // searched for.
-fn searched(s: Sheet, mode: Mode, a: Air) -> Found
+pub fn searched(s: Sheet, mode: Mode, a: Air) -> Found
     requires { ⌜ SheetOk s × AirOk a × (modeWithin mode ≡ true) × (vapourWithin mode a ≡ true) ⌝ }
     ensures { λ r. ⌜ r ≡ searchedOf s mode a ⌝ }
 {

@@ -21,7 +21,15 @@ pub struct Author<'a> {
 
 impl<'a> Author<'a> {
     pub fn new(random: &'a mut Random, profile: &'a Profile) -> Author<'a> {
-        let rooms = (0..random.between(1, 3)).map(|_| room(random, profile)).collect();
+        let mut rooms = vec![room(random, profile)];
+        for _ in 1..random.between(1, 3) {
+            let other = if random.percent(profile.twin) {
+                numbers::twin_room(random, &rooms[0])
+            } else {
+                room(random, profile)
+            };
+            rooms.push(other);
+        }
         let session = Session::default();
         Author { random, profile, session, state: State::fresh(), rooms }
     }

@@ -1,6 +1,6 @@
 //! Invented sessions: lessons as a class would give them, the limits and one beside
-//! them, signals over range by every ground, noise around zero, flat lines, halves at every
-//! rounding, hostile kinds, padding and fields, damaged headers and lengths, long integrations,
+//! them, signals over range by every ground, noise around zero, flat lines, rooms that
+//! differ in one number alone, halves at every rounding, hostile kinds, padding and fields, damaged headers and lengths, long integrations,
 //! and lists with hardly an accepted event. `plans` and `faults` invent what a writer of session files is
 //! given, and `pages` has sessions whose figures are hard to round.
 
@@ -32,6 +32,8 @@ pub struct Profile {
     below: u64,
     /// A sample is the same as the last one.
     steady: u64,
+    /// A room is the first one but for its pressure, its temperature or its damp alone.
+    twin: u64,
     /// Sheets, rooms, spans and reference gases have round numbers, whose ratios leave a half
     /// at one rounding or another.
     round: u64,
@@ -54,6 +56,7 @@ const LESSON: Profile = Profile {
     over: 1,
     below: 6,
     steady: 0,
+    twin: 0,
     round: 0,
     stray: 3,
     wild: 0,
@@ -61,11 +64,12 @@ const LESSON: Profile = Profile {
     damaged: 0,
 };
 
-pub const PROFILES: [Profile; 10] = [
+pub const PROFILES: [Profile; 11] = [
     LESSON,
     Profile { name: "limits", weight: 24, edge: 30, over: 12, stray: 8, wild: 1, ..LESSON },
     Profile { name: "zero gas", weight: 14, edge: 20, over: 0, below: 80, ..LESSON },
     Profile { name: "flat line", weight: 6, below: 20, steady: 90, ..LESSON },
+    Profile { name: "rooms alike", weight: 12, edge: 8, over: 8, below: 12, twin: 90, ..LESSON },
     Profile { name: "halves", weight: 12, below: 50, round: 100, ..LESSON },
     Profile {
         name: "hostile",

@@ -96,6 +96,20 @@ pub fn room(random: &mut Random) -> Air {
     Air { p, t, e }
 }
 
+/// A room that differs from another in one number alone, within the limits.
+pub fn twin_room(random: &mut Random, room: &Air) -> Air {
+    let steps = [-2_000, -200, -20, -1, 1, 20, 200, 2_000];
+    let step = random.pick(&steps);
+    match random.below(5) {
+        0 | 1 => {
+            let p = (room.p + step).clamp(60_000, 115_000);
+            Air { p, e: room.e.min(p / 10), ..*room }
+        }
+        2 | 3 => Air { t: (room.t + step).clamp(27_315, 32_315), ..*room },
+        _ => Air { e: random.between(0, room.p / 10), ..*room },
+    }
+}
+
 /// Air with round numbers. In the first three, 10,130,000 / D is 1, 5/4 and 25/16; in the fourth
 /// D / (100 P) is 21/20, and in the last P / (P − e) is 11/10.
 pub fn round_room(random: &mut Random) -> Air {

@@ -1,5 +1,4 @@
--- `sample_on` meets its contract: the checks in their order, and what they leave is what the search and the reading ask. Assumes
--- nothing.
+-- `sample_on` meets its contract: the checks in their order, and what they leave is what the reading asks. Assumes nothing.
 use mathlib.Core.Path.{_≡_, sym, _∙_}
 use mathlib.Core.Bool.{true}
 use borrow.Author.Needs.{needs}
@@ -11,7 +10,7 @@ use Rattle.curve.proofs.Within.{both}
 use Rattle.reference.specs.Signal.{signalOf}
 use Rattle.sampling.specs.Sample.{airOf, inputWithin, vapourWithin, sampledOn}
 use Rattle.sampling.proofs.Within.{InputOk, input-ok}
-use Rattle.sampling.proofs.Sizes.{signal-size, finding-size}
+use Rattle.sampling.proofs.Sizes.{signal-size}
 use Rattle.sampling.proofs.sample_on.Statement.{statement}
 use Rattle.sampling.proofs.sample_on.Tie as tie
 
@@ -53,37 +52,27 @@ signal-is c =
     let fw : SFits w64 (c .before .wide .result) = search needs in
     rw (raw-is (c .before)) at (simp toZ-ofZ at (c .from-raw .ensures))
 
-searched-requires : tie.Need-searched-requires
-searched-requires c κs =
-    let b = c .before .before .before in
-    let e = b .before in
-    let s = start1 e in
-    (s .pre .0, rw (b .air-of .ensures) (input e .air), s .pre .3, rw (b .air-of .ensures) (passed e .1))
-
 read-requires : tie.Need-read-requires
 read-requires c κs =
-    let v = c .before in
-    let b = v .before .before .before in
+    let b = c .before .before .before in
     let e = b .before in
     let s = start1 e in
     let i = input e in
     let n = signal-size (s .args .at .raw) (s .args .q) (s .args .span) (i .raw) (s .pre .1) (s .pre .2) in
-    let f : SFits w64 (v .from-raw .result) = search needs in
-    simp toZ-ofZ
-    (s .pre .0, rw (b .air-of .ensures) (i .air), rw (signal-is v) n, rw (c .searched .ensures) (finding-size (s .args .s) (s .args .mode) (b .air-of .result)))
+    let f : SFits w64 (c .from-raw .result) = search needs in
+    simp toZ-ofZ (s .pre .0, rw (b .air-of .ensures) (i .air), rw (signal-is c) n, s .pre .4)
 
 returns-2 : tie.Need-returns-2
 unfolding sampledOn
 returns-2 c =
-    let v = c .before .before in
+    let v = c .before in
     let b = v .before .before .before in
     let e = b .before in
     let f : SFits w64 (v .from-raw .result) = search needs in
-    rw (passed e .0, passed e .1, ← signal-is v, ← b .air-of .ensures, ← c .before .searched .ensures) (simp toZ-ofZ at (c .read .ensures))
+    rw (passed e .0, passed e .1, ← signal-is v, ← b .air-of .ensures) (simp toZ-ofZ at (c .read .ensures))
 
 pub sample-on-spec : {M : Type 1} → statement M
 sample-on-spec =
     tie.close
     (tie.spec
-    (λ c κs. search needs) returns (λ c κs. search needs) (λ c κs. search needs) from-raw-requires searched-requires read-requires
-    returns-2)
+    (λ c κs. search needs) returns (λ c κs. search needs) (λ c κs. search needs) from-raw-requires read-requires returns-2)

@@ -9,6 +9,7 @@ use mir.Val.{SFits}
 use lib.Dec.{leb}
 use lib.IntN.{natAbs}
 use Rattle.curve.specs.Limits.{within}
+use Rattle.counting.specs.Limits.{integrationWithin}
 use Rattle.sampling.specs.Sample.{modeWithin}
 use Rattle.rules.specs.Limits.{loadedWithin, workable}
 use Rattle.engine.proofs.limits.workable.Statement.{statement}
@@ -65,13 +66,26 @@ mode-at c = sym (c .before .mode-within .ensures) ∙ not-false _ (c .if4 .left)
 returns-5 : tie.Need-returns-5
 unfolding workable
 returns-5 c =
-    let d = c .before .before .before in
+    let m = c .before .before in
+    let d = m .before .before in
     let e = d .before .before in
-    rw (loaded-at (e .before .before .before), q-at e, s-at d, mode-at (c .before)) (c .integration-within .ensures)
+    rw (loaded-at (e .before .before .before), q-at e, s-at d, mode-at m, sym (c .before .integration-within .ensures) ∙ not-true _ (c .if5 .taken))
+
+integration-at : (c : tie.Else5) → integrationWithin (start3 (c .before .before .before .before) .args .st .integration) ≡ true
+integration-at c = sym (c .before .integration-within .ensures) ∙ not-false _ (c .if5 .left)
+
+returns-6 : tie.Need-returns-6
+unfolding workable
+returns-6 c =
+    let i = c .before in
+    let m = i .before .before in
+    let d = m .before .before in
+    let e = d .before .before in
+    rw (loaded-at (e .before .before .before), q-at e, s-at d, mode-at m, integration-at i) (c .stored-within .ensures)
 
 pub workable-spec : {M : Type 1} → statement M
 workable-spec =
     tie.close
     (tie.spec
     (λ c κs. search needs) returns (λ c κs. search needs) returns-2 (λ c κs. search needs) returns-3 (λ c κs. search needs) returns-4
-    (λ c κs. search needs) returns-5)
+    (λ c κs. search needs) returns-5 (λ c κs. search needs) returns-6)

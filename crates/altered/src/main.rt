@@ -1,0 +1,271 @@
+// R-7: records whose stored finding was altered, handed to `step`.
+//
+// What `stdout` holds, and where it comes from. First, for two values of K, what `step` answers to a sample at the stored P and T (refusal, R,
+// wet, dry), and beside it what the rules give with that R, by the reading alone. Then what an event does to a stored 30,000,000, which no search
+// finds there: its answer, and that of a sample after it, whose R is 30,000,000 where the finding was left and 40,000,000 where it was searched for
+// again. All of it was computed by the independent implementation in tests/, which works from documents 01 and 02 alone, and a test holds the file
+// to it; but for the last line, a record that the engine does not work with, whose refusal 1 is ours.
+ghost use mathlib.Core.Path.{_≡_};
+ghost use mathlib.Core.Bool.{true};
+ghost use Prim.Native.Nat.{_≤_};
+ghost use Rattle.curve.specs.Limits.{SheetOk};
+ghost use Rattle.reference.specs.Search.{foundValue};
+ghost use Rattle.sampling.specs.Sample.{modeWithin};
+use counting::Integration;
+use curve::Sheet;
+use engine::step;
+use libc::STDOUT_FILENO;
+use reference::Found;
+use rounding::signed::below_zero;
+use rounding::signed::magnitude;
+use rounding::widths::wide;
+use rules::Answer;
+use rules::Entry;
+use rules::Event;
+use rules::Loaded;
+use rules::State;
+use sampling::Cylinder;
+use sampling::Measurement;
+use sampling::Mode;
+use sampling::Sampled;
+use sampling::sample_on;
+use store::Finding;
+use store::Stored;
+
+// The list of sheets: the bench sheet as a file has it.
+const SHEETS: [u8; 24] = [128, 209, 240, 8, 64, 75, 76, 0, 64, 75, 76, 0, 119, 116, 0, 0, 0, 194, 235, 11, 0, 0, 0, 0];
+
+fn main() {
+    io::write_all(STDOUT_FILENO, b"K R raw | step | the rules with that R\n");
+    findings(200000000);
+    findings(10000000);
+    io::write_all(STDOUT_FILENO, b"after | its answer | a sample at the stored P and T\n");
+    settings();
+    samples();
+    io::write_all(STDOUT_FILENO, b"the same with K 10000000, where nothing is found\n");
+    nothing_found();
+}
+
+// Reference signals from 0 to 150,000,000, at the smaller K and above it too, and nothing.
+fn findings(k: u64)
+    requires { ⌜ (10000000 ≤ k) × (k ≤ 400000000) ⌝ }
+{
+    rows(k, Found::At(0));
+    rows(k, Found::At(1));
+    rows(k, Found::At(9999999));
+    rows(k, Found::At(10000000));
+    rows(k, Found::At(10000001));
+    rows(k, Found::At(39999999));
+    rows(k, Found::At(40000000));
+    rows(k, Found::At(40000001));
+    rows(k, Found::At(149999999));
+    rows(k, Found::At(150000000));
+    rows(k, Found::Nothing);
+}
+
+fn rows(k: u64, found: Found)
+    requires { ⌜ (10000000 ≤ k) × (k ≤ 400000000) × (foundValue found ≤ 150000000) ⌝ }
+{
+    row(k, found, -20000000);
+    row(k, found, 0);
+    row(k, found, 10000000);
+    row(k, found, 10500000);
+}
+
+// What `step` answers, and what the rules give.
+fn row(k: u64, found: Found, raw: i32)
+    requires { ⌜ (10000000 ≤ k) × (k ≤ 400000000) × (foundValue found ≤ 150000000) ⌝ }
+{
+    print_case(k, found, raw);
+    print_step(k, found, measured(raw, 101300, 29815));
+    print_rules(k, found, measured(raw, 101300, 29815));
+}
+
+fn print_step(k: u64, found: Found, at: Measurement)
+    requires { ⌜ (10000000 ≤ k) × (k ≤ 400000000) ⌝ }
+{
+    let stepped = step(&SHEETS, holding(k, found), Entry::Known(Event::Sample { at }));
+    let answer = stepped.answer;
+    print_answer(answer);
+    io::write_all(STDOUT_FILENO, b" | ");
+}
+
+fn print_rules(k: u64, found: Found, at: Measurement)
+    requires { ⌜ (10000000 ≤ k) × (k ≤ 400000000) × (foundValue found ≤ 150000000) ⌝ }
+{
+    let sampled = sample_on(bench_sheet(k), 0, 1000000, reference_mode(), at, found);
+    print_sampled(sampled);
+    io::write_all(STDOUT_FILENO, b"\n");
+}
+
+// The bench sheet with this K, against the reference, altered to hold this finding at P 101,300 and T 29,815.
+fn holding(k: u64, found: Found) -> State
+    requires { ⌜ (10000000 ≤ k) × (k ≤ 400000000) ⌝ }
+{
+    State {
+        loaded: Loaded::One(bench_sheet(k)),
+        q: 0,
+        s: 1000000,
+        mode: reference_mode(),
+        integration: Integration::Idle,
+        stored: Stored::Last(Finding {
+            p: 101300,
+            t: 29815,
+            found,
+        }),
+    }
+}
+
+fn bench_sheet(k: u64) -> Sheet
+    requires { ⌜ (10000000 ≤ k) × (k ≤ 400000000) ⌝ }
+    ensures { λ r. ⌜ SheetOk r ⌝ }
+{
+    Sheet {
+        a1: 150000000,
+        a2: 5000000,
+        a3: 5000000,
+        t0: 29815,
+        k,
+    }
+}
+
+fn reference_mode() -> Mode
+    ensures { λ r. ⌜ modeWithin r ≡ true ⌝ }
+{
+    Mode::Against(Cylinder {
+        c: 1000000000,
+        e: 0,
+    })
+}
+
+fn measured(raw: i32, p: u32, t: u32) -> Measurement {
+    Measurement {
+        raw,
+        p,
+        t,
+        e: 0,
+    }
+}
+
+// Events other than samples. After a load and an absolute the reference is set again.
+fn settings() {
+    let reference = Event::Reference {
+        cylinder: 1000000000,
+        e: 0,
+    };
+    shows(b"zero 0", Event::Zero { raw: 0 }, Event::Start);
+    shows(b"zero 20000001", Event::Zero { raw: 20000001 }, Event::Start);
+    let at = measured(50000000, 101300, 29815);
+    shows(b"span", Event::Span { at, cylinder: 1000000000 }, Event::Start);
+    shows(b"reference e 11501", Event::Reference { cylinder: 1000000000, e: 11501 }, Event::Start);
+    shows(b"reference", reference, Event::Start);
+    shows(b"absolute, reference", Event::Absolute, reference);
+    shows(b"load 1", Event::Load { index: 1 }, Event::Start);
+    shows(b"load 0, reference", Event::Load { index: 0 }, reference);
+    shows(b"start, stop", Event::Start, Event::Stop);
+    shows(b"area", Event::Area, Event::Start);
+}
+
+// Samples at the stored P and T, at another P or T, and back: what another one finds stays stored, unless it is refused with 6.
+fn samples() {
+    shows(b"raw -100000000", sampled(-100000000, 101300, 29815), Event::Start);
+    shows(b"raw 150000001", sampled(150000001, 101300, 29815), Event::Start);
+    shows(b"P 101299", sampled(0, 101299, 29815), Event::Start);
+    shows(b"T 29814", sampled(0, 101300, 29814), Event::Start);
+    shows(b"P 101299, raw -100000000", sampled(-100000000, 101299, 29815), Event::Start);
+    shows(b"P 101299, raw 150000000", sampled(150000000, 101299, 29815), Event::Start);
+    shows(b"P 101299, raw 150000001", sampled(150000001, 101299, 29815), Event::Start);
+    shows(b"P 59999", sampled(0, 59999, 29815), Event::Start);
+    shows(b"T 32316", sampled(0, 101300, 32316), Event::Start);
+}
+
+fn sampled(raw: i32, p: u32, t: u32) -> Event {
+    Event::Sample { at: measured(raw, p, t) }
+}
+
+fn shows(label: &[u8], first: Event, second: Event) {
+    io::write_all(STDOUT_FILENO, label);
+    shows_from(holding(200000000, Found::At(30000000)), first, second);
+}
+
+// Two events from a record, and then a sample at the stored P and T: the answers of the first and of the sample.
+fn shows_from(st: State, first: Event, second: Event) {
+    let one = step(&SHEETS, st, Entry::Known(first));
+    let after_one = one.state;
+    let answer = one.answer;
+    let two = step(&SHEETS, after_one, Entry::Known(second));
+    let after_two = two.state;
+    let three = step(&SHEETS, after_two, Entry::Known(sampled(0, 101300, 29815)));
+    let last = three.answer;
+    io::write_all(STDOUT_FILENO, b" | ");
+    print_answer(answer);
+    io::write_all(STDOUT_FILENO, b" | ");
+    print_answer(last);
+    io::write_all(STDOUT_FILENO, b"\n");
+}
+
+// With K 10,000,000 no signal reads the cylinder: a sample at another P is refused with 9, and that nothing was found stays stored.
+fn nothing_found() {
+    io::write_all(STDOUT_FILENO, b"P 101299");
+    shows_from(holding(10000000, Found::At(3000000)), sampled(0, 101299, 29815), Event::Start);
+    io::write_all(STDOUT_FILENO, b"P 101300");
+    shows_from(holding(10000000, Found::At(3000000)), sampled(0, 101300, 29815), Event::Start);
+    io::write_all(STDOUT_FILENO, b"R 150000001");
+    shows_from(holding(10000000, Found::At(150000001)), Event::Start, Event::Start);
+}
+
+fn print_case(k: u64, found: Found, raw: i32) {
+    io::print_decimal(STDOUT_FILENO, k);
+    io::write_all(STDOUT_FILENO, b" ");
+    print_found(found);
+    io::write_all(STDOUT_FILENO, b" ");
+    print_signed(wide(raw));
+    io::write_all(STDOUT_FILENO, b" | ");
+}
+
+fn print_found(found: Found) {
+    match found {
+        Found::At(r) => {
+            io::print_decimal(STDOUT_FILENO, r);
+        }
+        Found::Nothing => {
+            io::write_all(STDOUT_FILENO, b"nothing");
+        }
+    }
+}
+
+fn print_sampled(x: Sampled) {
+    match x {
+        Sampled::Value { r, wet, dry } => print_values(0, r, wet, dry),
+        Sampled::Refused(number) => print_values(number, 0, 0, 0),
+    }
+}
+
+// Refusal, m, x and y of the answers that are met here: other than samples and refusals, all 0.
+fn print_answer(a: Answer) {
+    match a {
+        Answer::Reading { r, wet, dry } => print_values(0, r, wet, dry),
+        Answer::Refused(number) => print_values(number, 0, 0, 0),
+        Answer::Done => print_values(0, 0, 0, 0),
+        Answer::Zeroed(q) => print_values(0, 0, q, 0),
+        Answer::Spanned(s) => print_values(0, s, 0, 0),
+        Answer::Area { n, area } => print_values(0, n, area, 0),
+    }
+}
+
+fn print_values(number: u8, m: u64, x: i64, y: i64) {
+    io::print_decimal(STDOUT_FILENO, number as u64);
+    io::write_all(STDOUT_FILENO, b" ");
+    io::print_decimal(STDOUT_FILENO, m);
+    io::write_all(STDOUT_FILENO, b" ");
+    print_signed(x);
+    io::write_all(STDOUT_FILENO, b" ");
+    print_signed(y);
+}
+
+fn print_signed(x: i64) {
+    if below_zero(x) {
+        io::write_all(STDOUT_FILENO, b"-");
+    }
+    io::print_decimal(STDOUT_FILENO, magnitude(x));
+}

@@ -41,6 +41,15 @@ fn sample(random: &mut Random, low: i64, high: i64) -> Event {
 const ABSOLUTE: (i64, i64) = (15_000_000, 25_000_000);
 const AGAINST: (i64, i64) = (-2_000_000, 2_000_000);
 
+/// The same samples where pressure and warmth stand still.
+fn still(events: &[Event]) -> Vec<Event> {
+    let still = |event: &Event| match *event {
+        Event::Sample { raw, e, .. } => Event::Sample { raw, p: 99_500, t: 29_815, e },
+        other => other,
+    };
+    events.iter().map(still).collect()
+}
+
 fn filled(mut events: Vec<Event>, length: usize, (low, high): (i64, i64)) -> Vec<Event> {
     let mut random = Random::new(length as u64);
     events.resize_with(length, || sample(&mut random, low, high));
@@ -64,7 +73,7 @@ fn case(name: &'static str, unit: &'static str, count: usize, events: &[Event]) 
     Case { name, unit, count, file: session.to_bytes() }
 }
 
-pub fn cases() -> [Case; 3] {
+pub fn cases() -> [Case; 4] {
     let absolute = filled(vec![LOAD, Event::Start], EVENTS_LIMIT, ABSOLUTE);
     let against = filled(vec![LOAD, REFERENCE, Event::Start], EVENTS_LIMIT, AGAINST);
     let modes = [(Event::Absolute, ABSOLUTE), (REFERENCE, AGAINST), (REFERENCE, AGAINST)];
@@ -74,6 +83,7 @@ pub fn cases() -> [Case; 3] {
     [
         case("samples, absolute", "samples", EVENTS_LIMIT - 2, &absolute),
         case("samples against a reference", "samples", EVENTS_LIMIT - 3, &against),
+        case("the same, P and T still", "samples", EVENTS_LIMIT - 3, &still(&against)),
         case("lessons of 2,700 events", "sessions", 1, &lessons),
     ]
 }

@@ -29,20 +29,50 @@ use sampling::Measurement;
 use sampling::Mode;
 use sampling::Sampled;
 use sampling::sample_on;
-use store::Finding;
 use store::Stored;
 
 // The list of sheets: the bench sheet as a file has it.
-const SHEETS: [u8; 24] = [128, 209, 240, 8, 64, 75, 76, 0, 64, 75, 76, 0, 119, 116, 0, 0, 0, 194, 235, 11, 0, 0, 0, 0];
+const SHEETS: [u8; 24] = [
+    128,
+    209,
+    240,
+    8,
+    64,
+    75,
+    76,
+    0,
+    64,
+    75,
+    76,
+    0,
+    119,
+    116,
+    0,
+    0,
+    0,
+    194,
+    235,
+    11,
+    0,
+    0,
+    0,
+    0,
+];
 
 fn main() {
     io::write_all(STDOUT_FILENO, b"K R raw | step | the rules with that R\n");
     findings(200000000);
     findings(10000000);
-    io::write_all(STDOUT_FILENO, b"after | its answer | a sample at the stored P and T\n");
+    io::write_all(
+        STDOUT_FILENO,
+        b"after | its answer | a sample at the stored P and T\n",
+    );
     settings();
     samples();
-    io::write_all(STDOUT_FILENO, b"the same with K 10000000, where nothing is found\n");
+    io::write_all(
+        STDOUT_FILENO,
+        b"the same with K 10000000, where nothing is found\n",
+    );
     nothing_found();
 }
 
@@ -82,9 +112,13 @@ fn row(k: u64, found: Found, raw: i32)
 }
 
 fn print_step(k: u64, found: Found, at: Measurement)
-    requires { ⌜ (10000000 ≤ k) × (k ≤ 400000000) ⌝ }
+    requires { ⌜ (10000000 ≤ k) × (k ≤ 400000000) × (foundValue found ≤ 150000000) ⌝ }
 {
-    let stepped = step(&SHEETS, holding(k, found), Entry::Known(Event::Sample { at }));
+    let stepped = step(
+        &SHEETS,
+        holding(k, found),
+        Entry::Known(Event::Sample { at }),
+    );
     let answer = stepped.answer;
     print_answer(answer);
     io::write_all(STDOUT_FILENO, b" | ");
@@ -100,19 +134,31 @@ fn print_rules(k: u64, found: Found, at: Measurement)
 
 // The bench sheet with this K, against the reference, altered to hold this finding at P 101,300 and T 29,815.
 fn holding(k: u64, found: Found) -> State
-    requires { ⌜ (10000000 ≤ k) × (k ≤ 400000000) ⌝ }
+    requires { ⌜ (10000000 ≤ k) × (k ≤ 400000000) × (foundValue found ≤ 4000000000) ⌝ }
 {
     State {
         loaded: Loaded::One(bench_sheet(k)),
         q: 0,
         s: 1000000,
         mode: reference_mode(),
+        stored: stored_there(found),
         integration: Integration::Idle,
-        stored: Stored::Last(Finding {
+    }
+}
+
+fn stored_there(found: Found) -> Stored
+    requires { ⌜ foundValue found ≤ 4000000000 ⌝ }
+{
+    match found {
+        Found::At(r) => Stored::At {
             p: 101300,
             t: 29815,
-            found,
-        }),
+            r: r as u32,
+        },
+        Found::Nothing => Stored::Nothing {
+            p: 101300,
+            t: 29815,
+        },
     }
 }
 
@@ -139,12 +185,7 @@ fn reference_mode() -> Mode
 }
 
 fn measured(raw: i32, p: u32, t: u32) -> Measurement {
-    Measurement {
-        raw,
-        p,
-        t,
-        e: 0,
-    }
+    Measurement { raw, p, t, e: 0 }
 }
 
 // Events other than samples. After a load and an absolute the reference is set again.
@@ -154,10 +195,28 @@ fn settings() {
         e: 0,
     };
     shows(b"zero 0", Event::Zero { raw: 0 }, Event::Start);
-    shows(b"zero 20000001", Event::Zero { raw: 20000001 }, Event::Start);
+    shows(
+        b"zero 20000001",
+        Event::Zero { raw: 20000001 },
+        Event::Start,
+    );
     let at = measured(50000000, 101300, 29815);
-    shows(b"span", Event::Span { at, cylinder: 1000000000 }, Event::Start);
-    shows(b"reference e 11501", Event::Reference { cylinder: 1000000000, e: 11501 }, Event::Start);
+    shows(
+        b"span",
+        Event::Span {
+            at,
+            cylinder: 1000000000,
+        },
+        Event::Start,
+    );
+    shows(
+        b"reference e 11501",
+        Event::Reference {
+            cylinder: 1000000000,
+            e: 11501,
+        },
+        Event::Start,
+    );
     shows(b"reference", reference, Event::Start);
     shows(b"absolute, reference", Event::Absolute, reference);
     shows(b"load 1", Event::Load { index: 1 }, Event::Start);
@@ -168,19 +227,41 @@ fn settings() {
 
 // Samples at the stored P and T, at another P or T, and back: what another one finds stays stored, unless it is refused with 6.
 fn samples() {
-    shows(b"raw -100000000", sampled(-100000000, 101300, 29815), Event::Start);
-    shows(b"raw 150000001", sampled(150000001, 101300, 29815), Event::Start);
+    shows(
+        b"raw -100000000",
+        sampled(-100000000, 101300, 29815),
+        Event::Start,
+    );
+    shows(
+        b"raw 150000001",
+        sampled(150000001, 101300, 29815),
+        Event::Start,
+    );
     shows(b"P 101299", sampled(0, 101299, 29815), Event::Start);
     shows(b"T 29814", sampled(0, 101300, 29814), Event::Start);
-    shows(b"P 101299, raw -100000000", sampled(-100000000, 101299, 29815), Event::Start);
-    shows(b"P 101299, raw 150000000", sampled(150000000, 101299, 29815), Event::Start);
-    shows(b"P 101299, raw 150000001", sampled(150000001, 101299, 29815), Event::Start);
+    shows(
+        b"P 101299, raw -100000000",
+        sampled(-100000000, 101299, 29815),
+        Event::Start,
+    );
+    shows(
+        b"P 101299, raw 150000000",
+        sampled(150000000, 101299, 29815),
+        Event::Start,
+    );
+    shows(
+        b"P 101299, raw 150000001",
+        sampled(150000001, 101299, 29815),
+        Event::Start,
+    );
     shows(b"P 59999", sampled(0, 59999, 29815), Event::Start);
     shows(b"T 32316", sampled(0, 101300, 32316), Event::Start);
 }
 
 fn sampled(raw: i32, p: u32, t: u32) -> Event {
-    Event::Sample { at: measured(raw, p, t) }
+    Event::Sample {
+        at: measured(raw, p, t),
+    }
 }
 
 fn shows(label: &[u8], first: Event, second: Event) {
@@ -207,11 +288,23 @@ fn shows_from(st: State, first: Event, second: Event) {
 // With K 10,000,000 no signal reads the cylinder: a sample at another P is refused with 9, and that nothing was found stays stored.
 fn nothing_found() {
     io::write_all(STDOUT_FILENO, b"P 101299");
-    shows_from(holding(10000000, Found::At(3000000)), sampled(0, 101299, 29815), Event::Start);
+    shows_from(
+        holding(10000000, Found::At(3000000)),
+        sampled(0, 101299, 29815),
+        Event::Start,
+    );
     io::write_all(STDOUT_FILENO, b"P 101300");
-    shows_from(holding(10000000, Found::At(3000000)), sampled(0, 101300, 29815), Event::Start);
+    shows_from(
+        holding(10000000, Found::At(3000000)),
+        sampled(0, 101300, 29815),
+        Event::Start,
+    );
     io::write_all(STDOUT_FILENO, b"R 150000001");
-    shows_from(holding(10000000, Found::At(150000001)), Event::Start, Event::Start);
+    shows_from(
+        holding(10000000, Found::At(150000001)),
+        Event::Start,
+        Event::Start,
+    );
 }
 
 fn print_case(k: u64, found: Found, raw: i32) {

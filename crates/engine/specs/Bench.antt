@@ -12,6 +12,7 @@ use Rattle.counting.specs.Integration.{emptyTally, countedOf}
 use Rattle.sampling.specs.declared.Mode.{Mode}
 use Rattle.sampling.specs.declared.Measurement.{Measurement}
 use Rattle.store.specs.declared.Stored.{Stored}
+use Rattle.store.specs.Store.{storedAs}
 use Rattle.rules.specs.declared.Loaded.{Loaded}
 use Rattle.rules.specs.declared.State.{State}
 use Rattle.rules.specs.declared.Event.{Event}
@@ -43,7 +44,7 @@ smallState x = idleWith (Loaded.One smallSheet) (pos 0) 1000000 referenceMode x
 
 -- what was found at P 101,300, T 29,815
 abbrev pub foundThere : Found → Stored
-foundThere f = Stored.Last (record { p = 101300; t = 29815; found = f })
+foundThere f = storedAs 101300 29815 f
 
 -- the bench sheet, after a start, X counted
 abbrev pub countedOnce : ℤ → State

@@ -1,11 +1,10 @@
 -- R-7's claims hold, for every list of sheets and every list of entries. Assumes nothing.
-use mathlib.Core.Bool.{Bool, true, false, cond}
+use mathlib.Core.Bool.{true, false}
 use mathlib.Core.List.{List, []}
 use mathlib.Core.Path.{_≡_, refl, sym, ap, subst, _∙_}
 use Prim.Native.Nat.{ℕ, _≤_}
 use native.Mathlib.Omega.{arith}
-use borrow.Author.Tests.{le-leb, eq-eqb}
-use lib.Dec.{T, eqb}
+use lib.Dec.{T}
 use Rattle.curve.specs.declared.Sheet.{Sheet}
 use Rattle.curve.specs.Absolute.{absoluteOf}
 use Rattle.reference.specs.declared.Found.{Found}
@@ -15,15 +14,15 @@ use Rattle.sampling.specs.declared.Cylinder.{Cylinder}
 use Rattle.sampling.specs.declared.Mode.{Mode}
 use Rattle.sampling.specs.declared.Measurement.{Measurement}
 use Rattle.sampling.specs.declared.Sampled.{Sampled}
-use Rattle.sampling.specs.Sample.{airOf, checkedOn, valuesOf, sampledRefusal, sampledOn}
+use Rattle.sampling.specs.Sample.{airOf, checkedOn, valuesOf, sampledOn}
 use Rattle.store.specs.declared.Stored.{Stored}
 use Rattle.store.specs.Store.{isAt, storedWithin, findingIn}
+use Rattle.store.proofs.Keeping.{as-within, finding-as, is-at-as}
 use Rattle.rules.specs.declared.Loaded.{Loaded}
 use Rattle.rules.specs.declared.State.{State}
 use Rattle.rules.specs.declared.Entry.{Entry}
-use Rattle.rules.specs.declared.Answer.{Answer}
 use Rattle.rules.specs.declared.Stepped.{Stepped}
-use Rattle.rules.specs.Rules.{fresh, answered}
+use Rattle.rules.specs.Rules.{fresh}
 use Rattle.rules.specs.Limits.{workable}
 use Rattle.events.specs.Sample.{withStored, storing, sampledOf, searchedFor}
 use Rattle.events.specs.Events.{sampleBy, sampleRead}
@@ -42,28 +41,18 @@ store-holds sheets entries =
     let s = same sheets fresh (from-fresh sheets []) entries in
     record { searched = k .searched; answers = s .0; states = s .1 }
 
--- the answer goes by what the sample gives, whatever the state
-same-answer : (a b : State) (x : Sampled) → sampleBy a x .answer ≡ sampleBy b x .answer
-same-answer a b x = either (eqb (sampledRefusal x) 0) _ _ _ _ _ _
-  where
-    either : (t : Bool) (y z : Answer) (c d e f : State) → cond t (answered y c) (answered z d) .answer ≡ cond t (answered y e) (answered z f) .answer
-    either true y z c d e f = refl
-    either false y z c d e f = refl
-
 module _ (sheets : List ℕ) (st : State) (k : Kept st) where
   -- ---- at the stored P and T
   module _ (at : Measurement) (f : Found) (h : foundValue f ≤ 150000000) where
     abbrev holds : State
     holds = withStored st (foundAt at f)
 
-    there : isAt (foundAt at f) at ≡ true
-    there = rw (eq-eqb (at .p) (at .p) refl, eq-eqb (at .t) (at .t) refl)
-
     with-finding : stepOf sheets holds (sampleOf at) ≡ sampleBy holds (sampledOf st at f)
     unfolding sampledOf
     with-finding =
-        by-rules sheets holds (sampleOf at) (work-holding st (foundAt at f) (k .works) (le-leb (foundValue f) 150000000 h))
-        ∙ ap (λ (x : Stored). sampleRead (withStored st x) at) (storing-at holds at there)
+        by-rules sheets holds (sampleOf at) (work-holding st (foundAt at f) (k .works) (as-within (at .p) (at .t) f h))
+        ∙ ap (λ (x : Stored). sampleRead (withStored st x) at) (storing-at holds at (is-at-as at f))
+        ∙ ap (λ (g : Found). sampleBy holds (sampledOf st at g)) (finding-as (at .p) (at .t) f)
 
   module _ (s : Sheet) (gas : Cylinder) (l : st .loaded ≡ Loaded.One s) (m : st .mode ≡ Mode.Against gas) (at : Measurement)
       (c : checkedOn (Mode.Against gas) at ≡ true) where
@@ -82,7 +71,6 @@ module _ (sheets : List ℕ) (st : State) (k : Kept st) where
         → stepOf sheets u (sampleOf at) .answer ≡ sampleBy st (sampledOf u at (searchedFor u at)) .answer
     by-search u w h =
         ap (λ (r : Stepped). r .answer) (by-rules sheets u (sampleOf at) w)
-        ∙ same-answer (storing u at) st (sampledOf (storing u at) at (findingIn (storing u at .stored)))
         ∙ ap (λ (x : Sampled). sampleBy st x .answer) (same-sample u at h)
 
     elsewhere : (x : Stored) → storedWithin x ≡ true → isAt x at ≡ false

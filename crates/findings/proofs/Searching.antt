@@ -13,7 +13,6 @@ use Rattle.sheets.specs.declared.Lookup.{Lookup}
 use Rattle.sampling.specs.declared.Mode.{Mode}
 use Rattle.sampling.specs.declared.Measurement.{Measurement}
 use Rattle.sampling.specs.declared.Sampled.{Sampled}
-use Rattle.sampling.specs.Sample.{sampledRefusal}
 use Rattle.sampling.specs.Span.{spannedRefusal, spannedOn}
 use Rattle.sheets.specs.Sheets.{lookupRefusal, lookupOf}
 use Rattle.store.specs.declared.Stored.{Stored}
@@ -76,7 +75,7 @@ module _ (sheets : List ℕ) (st : State) where
   unfolding sampledOf
   sample at h =
       subst (λ (x : Sampled). Beside (searchingSample (emptied st) at) (sampleBy (storing st at) x)) (sym (same-sample st at (agrees-in st at h)))
-      (either (eqb (sampledRefusal (sampledOf st at (searchedFor st at))) 0) (here _) (here _))
+      (here (sampleBy (storing st at) (sampledOf st at (searchedFor st at))))
 
   beside : StoredIsSearched st → (entry : Entry) → Beside (searchingRules sheets (emptied st) entry) (rules sheets st entry)
   beside h (Entry.Known (Event.Load index)) = either (eqb (lookupRefusal (lookupOf sheets index)) 0) (here _) (here _)
@@ -97,11 +96,10 @@ pub same : (sheets : List ℕ) (st : State) → Kept st → (entries : List Entr
 same sheets st k [] = (refl, refl)
 same sheets st k (entry ∷ entries) =
     let e : emptying (stepOf sheets st entry) ≡ searchingRules sheets (emptied st) entry =
-        ap emptying (by-rules sheets st entry (k .works)) ∙ sym (beside sheets st (k .searched) entry .is) in
+    ap emptying (by-rules sheets st entry (k .works)) ∙ sym (beside sheets st (k .searched) entry .is) in
     let n = kept sheets st (k .together) (k .searched) (entry ∷ []) .1 in
-    let r = same sheets (stepOf sheets st entry .state) n entries in
-    (
+    let r = same sheets (stepOf sheets st entry .state) n entries in (
       ap (λ (rest : List Answer). stepOf sheets st entry .answer ∷ rest) (r .0)
-      ∙ ap (λ (x : Stepped). x .answer ∷ searchingAnswers sheets (x .state) entries) e,
+          ∙ ap (λ (x : Stepped). x .answer ∷ searchingAnswers sheets (x .state) entries) e,
       r .1 ∙ ap (λ (x : Stepped). searchingLeaves sheets (x .state) entries) e,
     )

@@ -14,7 +14,7 @@ use Rattle.sampling.specs.declared.Mode.{Mode}
 use Rattle.sampling.specs.declared.Measurement.{Measurement}
 use Rattle.sampling.specs.Sample.{airOf, checkedOn, valuesOf}
 use Rattle.store.specs.declared.Stored.{Stored}
-use Rattle.store.specs.Store.{isAt, storedWithin}
+use Rattle.store.specs.Store.{isAt, storedAs, storedWithin}
 use Rattle.rules.specs.declared.Loaded.{Loaded}
 use Rattle.rules.specs.declared.State.{State}
 use Rattle.rules.specs.declared.Event.{Event}
@@ -43,7 +43,7 @@ pub record StoreHolds (sheets : List ℕ) (entries : List Entry) : Type 0 where
 
 -- the finding f at the sample's P and T
 abbrev pub foundAt : Measurement → Found → Stored
-foundAt at f = Stored.Last (record { p = at .p; t = at .t; found = f })
+foundAt at f = storedAs (at .p) (at .t) f
 
 -- st being a state that a list leaves, and f an R from 0 to 150,000,000, at or above K too, or nothing
 pub record AlteredHolds (sheets : List ℕ) (st : State) : Type 0 where

@@ -49,7 +49,7 @@ work st e =
 
 -- a record with something else stored that is within its limits
 pub work-holding : (st : State) (x : Stored) → workable st ≡ true → storedWithin x ≡ true
-    → workable (record { loaded = st .loaded; q = st .q; s = st .s; mode = st .mode; integration = st .integration; stored = x }) ≡ true
+    → workable (record { loaded = st .loaded; q = st .q; s = st .s; mode = st .mode; stored = x; integration = st .integration }) ≡ true
 unfolding workable
 work-holding st x e h = rw (both (setWithin st) (storedWithin (st .stored)) e .0) h
 

@@ -21,8 +21,8 @@ pub struct State {
     pub q: i64,
     pub s: u64,
     pub mode: Mode,
-    pub integration: Integration,
     pub stored: Stored,
+    pub integration: Integration,
 }
 
 // The nine kinds, each with its own fields at the file's widths.
@@ -70,7 +70,7 @@ pub fn fresh_state() -> State
         q: 0,
         s: 1000000,
         mode: Mode::Absolute,
-        integration: Integration::Idle,
         stored: Stored::Empty,
+        integration: Integration::Idle,
     }
 }

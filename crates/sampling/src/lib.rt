@@ -66,7 +66,14 @@ pub fn mode_within(mode: Mode) -> bool
 }
 
 // The values of a sample under a sheet, zero, span and mode, with what was found for the reference.
-pub fn sample_on(s: Sheet, q: i64, span: u64, mode: Mode, at: Measurement, finding: Found) -> Sampled
+pub fn sample_on(
+    s: Sheet,
+    q: i64,
+    span: u64,
+    mode: Mode,
+    at: Measurement,
+    finding: Found,
+) -> Sampled
     requires { ⌜ SheetOk s × (natAbs q ≤ 20000000) × (span ≤ 2000000) × (modeWithin mode ≡ true) × (foundValue finding ≤ 150000000) ⌝ }
     ensures { λ r. ⌜ r ≡ sampledOn s q span mode at finding ⌝ }
 {

@@ -2,9 +2,11 @@
 // stored and search for nothing.
 ghost use mathlib.Core.Path.{_≡_};
 ghost use mathlib.Core.Bool.{true};
+ghost use Prim.Native.Nat.{_≤_};
 ghost use Rattle.curve.specs.Limits.{SheetOk};
+ghost use Rattle.reference.specs.Search.{foundValue};
 ghost use Rattle.sampling.specs.Sample.{modeWithin};
-ghost use Rattle.store.specs.Store.{isAt, storedOn, findingIn, storedWithin};
+ghost use Rattle.store.specs.Store.{isAt, storedAs, findingIn, storedOn, storedWithin};
 use curve::Sheet;
 use reference::Found;
 use sampling::Measurement;
@@ -13,16 +15,11 @@ use sampling::air_of;
 use sampling::inputs_within;
 use sampling::searched;
 
-// What a search found, and the P and T at which it searched.
-pub struct Finding {
-    pub p: u32,
-    pub t: u32,
-    pub found: Found,
-}
-
+// Nothing, or the P and T at which was searched last, and what was found there: the signal R, or that there is none.
 pub enum Stored {
     Empty,
-    Last(Finding),
+    At { p: u32, t: u32, r: u32 },
+    Nothing { p: u32, t: u32 },
 }
 
 // The limits of what is stored.
@@ -41,12 +38,13 @@ pub fn finding_in(stored: Stored) -> Found
 {
     match stored {
         Stored::Empty => Found::Nothing,
-        Stored::Last(x) => x.found,
+        Stored::At { p: _, t: _, r } => Found::At(r as u64),
+        Stored::Nothing { p: _, t: _ } => Found::Nothing,
     }
 }
 
 // What stands stored after a sample under a sheet and a mode. It searches only against a reference, for inputs that pass check 6, and where
-// what is stored is of another P or T.
+// what is stored is of another P or T, which is asked first, as it is the case the least often.
 pub fn stored_after(s: Sheet, mode: Mode, at: Measurement, stored: Stored) -> Stored
     requires { ⌜ SheetOk s × (modeWithin mode ≡ true) ⌝ }
     ensures { λ r. ⌜ r ≡ storedOn s mode at stored ⌝ }
@@ -54,17 +52,13 @@ pub fn stored_after(s: Sheet, mode: Mode, at: Measurement, stored: Stored) -> St
     let Mode::Against(_) = mode else {
         return stored;
     };
-    if !inputs_within(mode, at) {
-        return stored;
-    }
     if is_at(stored, at) {
         return stored;
     }
-    Stored::Last(Finding {
-        p: at.p,
-        t: at.t,
-        found: searched(s, mode, air_of(at)),
-    })
+    if !inputs_within(mode, at) {
+        return stored;
+    }
+    stored_as(at.p, at.t, searched(s, mode, air_of(at)))
 }
 
 // Whether what is stored was found at the sample's P and T.
@@ -73,6 +67,17 @@ fn is_at(stored: Stored, at: Measurement) -> bool
 {
     match stored {
         Stored::Empty => false,
-        Stored::Last(x) => x.p == at.p && x.t == at.t,
+        Stored::At { p, t, r: _ } => p == at.p && t == at.t,
+        Stored::Nothing { p, t } => p == at.p && t == at.t,
+    }
+}
+
+fn stored_as(p: u32, t: u32, found: Found) -> Stored
+    requires { ⌜ foundValue found ≤ 150000000 ⌝ }
+    ensures { λ x. ⌜ x ≡ storedAs p t found ⌝ }
+{
+    match found {
+        Found::At(r) => Stored::At { p, t, r: r as u32 },
+        Found::Nothing => Stored::Nothing { p, t },
     }
 }

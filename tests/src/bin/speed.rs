@@ -28,10 +28,10 @@ fn row(case: &Case, output: &mut [u8]) -> String {
     pace::row(case.name, case.unit, case.count, [&proved, &independent], output)
 }
 
-/// The instructions of a sample in each of the first two cases, this program counted by valgrind.
+/// The instructions of a sample in each of the first three cases, this program counted by valgrind.
 fn instructions(cases: &[Case]) {
     let program = std::env::current_exe().expect("this program's own file");
-    for (i, case) in cases.iter().enumerate().take(2) {
+    for (i, case) in cases.iter().enumerate().take(3) {
         let counts = instructions::counted(&program, &(i + 1).to_string());
         println!("{}:\n\n{}\n", case.name, instructions::table(&counts, case.count));
     }

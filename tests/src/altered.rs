@@ -6,8 +6,6 @@ use crate::engine::{self, Answer, Entry, Event, Integration, Mode, State};
 use crate::rules::{Refusal, Sheet, SPAN_UNIT};
 use crate::store::{self, Finding, Stored};
 
-/// The cylinder of document 01's readings on the bench.
-const REFERENCE: Event = Event::Reference { cylinder: 1_000_000_000, e: 0 };
 const P: u32 = 101_300;
 const T: u32 = 29_815;
 
@@ -32,12 +30,16 @@ fn sample(raw: i32, p: u32, t: u32) -> Event {
     Event::Sample { raw, p, t, e: 0 }
 }
 
-/// The bench sheet with this K against the reference, altered to hold this finding.
-fn holding(k: i64, found: Option<i64>) -> (State, Stored) {
+/// The bench sheet with this K in this mode, altered to hold this finding.
+fn holding(k: i64, found: Option<i64>, mode: Mode) -> (State, Stored) {
     let sheet = bench::sheet().accepted().map(|sheet| Sheet { k, ..sheet });
-    let mode = Mode::Reference { cylinder: 1_000_000_000, e: 0 };
     let state = State { sheet, q: 0, s: SPAN_UNIT, mode, integration: Integration::Idle };
     (state, Some(Finding { p: P.into(), t: T.into(), found }))
+}
+
+/// Against the cylinder of document 01's readings on the bench, with this vapour pressure.
+fn against(e: i64) -> Mode {
+    Mode::Reference { cylinder: 1_000_000_000, e }
 }
 
 fn numbers(answer: &Answer) -> String {
@@ -46,52 +48,56 @@ fn numbers(answer: &Answer) -> String {
 
 /// A sample at the stored P and T: what a store gives, and what the rules give with that R.
 fn row(k: i64, found: Option<i64>, raw: i32) -> String {
-    let (state, stored) = holding(k, found);
+    let (state, stored) = holding(k, found, against(0));
     let entry = Entry::Known(sample(raw, P, T));
     let (answer, _, kept) = store::step(None, &[], (&state, stored), &entry);
     assert_eq!(kept, stored, "what is stored stays");
     let with_it = |_: &_, _, _: &_| found.ok_or(Refusal::NoReferenceSignal);
     let (by_rules, _) = engine::step_by(&with_it, &[], &state, &entry);
-    let signal = found.map_or("nothing".to_string(), |r| r.to_string());
-    format!("{k} {signal} {raw} | {} | {}\n", numbers(&answer), numbers(&by_rules))
+    format!("{k} {} {raw} | {} | {}\n", signal(found), numbers(&answer), numbers(&by_rules))
 }
 
-/// Two events from an altered record, and a sample at the stored P and T after them.
-fn shows(label: &str, k: i64, found: i64, [first, second]: [Event; 2]) -> String {
-    let sheets = [bench::sheet()];
-    let (mut state, mut stored) = holding(k, Some(found));
-    let answers = [first, second, sample(0, P, T)].map(|event| {
-        let (answer, next, kept) =
-            store::step(None, &sheets, (&state, stored), &Entry::Known(event));
-        (state, stored) = (next, kept);
-        answer
-    });
-    format!("{label} | {} | {}\n", numbers(&answers[0]), numbers(&answers[2]))
+fn signal(found: Option<i64>) -> String {
+    found.map_or("nothing".to_string(), |r| r.to_string())
 }
+
+/// An entry at a record: its answer, what stands stored after it, and the answer of a sample then.
+fn shows(label: &str, (state, stored): (State, Stored), entry: Entry) -> String {
+    let sheets = [bench::sheet()];
+    let (answer, next, kept) = store::step(None, &sheets, (&state, stored), &entry);
+    let place = |finding: Finding| format!("{} {} {}", finding.p, finding.t, signal(finding.found));
+    let shown = kept.map_or("empty".to_string(), place);
+    let sample = Entry::Known(sample(0, P, T));
+    let (last, ..) = store::step(None, &sheets, (&next, kept), &sample);
+    format!("{label} | {} | {shown} | {}\n", numbers(&answer), numbers(&last))
+}
+
+fn bench_holding() -> (State, Stored) {
+    holding(200_000_000, Some(30_000_000), against(0))
+}
+
+const SPAN: Event = Event::Span { raw: 50_000_000, cylinder: 1_000_000_000, p: P, t: T, e: 0 };
 
 fn settings() -> String {
-    let bench_span = Event::Span { raw: 50_000_000, cylinder: 1_000_000_000, p: P, t: T, e: 0 };
-    let damp = Event::Reference { cylinder: 1_000_000_000, e: 11_501 };
     let cases = [
-        ("zero 0", Event::Zero { raw: 0 }, Event::Start),
-        ("zero 20000001", Event::Zero { raw: 20_000_001 }, Event::Start),
-        ("span", bench_span, Event::Start),
-        ("reference e 11501", damp, Event::Start),
-        ("reference", REFERENCE, Event::Start),
-        ("absolute, reference", Event::Absolute, REFERENCE),
-        ("load 1", Event::Load { index: 1 }, Event::Start),
-        ("load 0, reference", Event::Load { index: 0 }, REFERENCE),
-        ("start, stop", Event::Start, Event::Stop),
-        ("area", Event::Area, Event::Start),
+        ("zero 0", Event::Zero { raw: 0 }),
+        ("zero 20000001", Event::Zero { raw: 20_000_001 }),
+        ("span", SPAN),
+        ("reference", Event::Reference { cylinder: 1_000_000_000, e: 0 }),
+        ("reference e 11501", Event::Reference { cylinder: 1_000_000_000, e: 11_501 }),
+        ("absolute", Event::Absolute),
+        ("load 0", Event::Load { index: 0 }),
+        ("load 1", Event::Load { index: 1 }),
+        ("start", Event::Start),
+        ("stop", Event::Stop),
+        ("area", Event::Area),
     ];
-    let shown = cases.map(|(label, first, second)| {
-        shows(label, 200_000_000, 30_000_000, [first, second])
-    });
-    shown.concat()
+    cases.map(|(label, event)| shows(label, bench_holding(), Entry::Known(event))).concat()
 }
 
 fn samples() -> String {
     let cases = [
+        ("sample", 0, P, T),
         ("raw -100000000", -100_000_000, P, T),
         ("raw 150000001", 150_000_001, P, T),
         ("P 101299", 0, 101_299, T),
@@ -102,19 +108,28 @@ fn samples() -> String {
         ("P 59999", 0, 59_999, T),
         ("T 32316", 0, P, 32_316),
     ];
-    let shown = cases.map(|(label, raw, p, t)| {
-        shows(label, 200_000_000, 30_000_000, [sample(raw, p, t), Event::Start])
-    });
+    let shown = cases
+        .map(|(label, raw, p, t)| shows(label, bench_holding(), Entry::Known(sample(raw, p, t))));
     shown.concat()
 }
 
-fn nothing_found() -> String {
-    let cases = [("P 101299", 101_299), ("P 101300", P)];
-    let shown = cases.map(|(label, p)| {
-        shows(label, 10_000_000, 3_000_000, [sample(0, p, T), Event::Start])
-    });
-    // A record with an R beyond 150,000,000 is one that the engine does not work with: 1.
-    shown.concat() + "R 150000001 | 1 0 0 0 | 1 0 0 0\n"
+fn others() -> String {
+    let damp = holding(200_000_000, Some(30_000_000), against(6_001));
+    let narrow = holding(10_000_000, Some(3_000_000), against(0));
+    let absolute = holding(200_000_000, Some(30_000_000), Mode::Absolute);
+    let at = |p| Entry::Known(sample(0, p, T));
+    let cases = [
+        ("malformed, kind 6", bench_holding(), Entry::Malformed(6)),
+        ("malformed, kind 1", bench_holding(), Entry::Malformed(1)),
+        ("er 6001, P 60010", damp, at(60_010)),
+        ("er 6001, P 60009", damp, at(60_009)),
+        ("K 10000000, P 101299", narrow, at(101_299)),
+        ("absolute mode, P 101299", absolute, at(101_299)),
+        ("absolute mode, span", absolute, Entry::Known(SPAN)),
+    ];
+    // A record with an R beyond 150,000,000 is one that the engine does not work with: 1, and kept.
+    let beyond = "R 150000001, start | 1 0 0 0 | 101300 29815 150000001 | 1 0 0 0\n";
+    cases.map(|(label, record, entry)| shows(label, record, entry)).concat() + beyond
 }
 
 pub fn text() -> String {
@@ -124,10 +139,6 @@ pub fn text() -> String {
             RAWS.iter().for_each(|raw| text.push_str(&row(k, found, *raw)));
         }
     }
-    text.push_str("after | its answer | a sample at the stored P and T\n");
-    text.push_str(&settings());
-    text.push_str(&samples());
-    text.push_str("the same with K 10000000, where nothing is found\n");
-    text.push_str(&nothing_found());
-    text
+    text.push_str("event | its answer | stored after it | a sample at P 101300, T 29815\n");
+    text + &settings() + &samples() + &others()
 }

@@ -19,21 +19,23 @@ pub struct Finding {
 /// The finding that is stored, if any.
 pub type Stored = Option<Finding>;
 
-/// How a store goes wrong so that answers show it. Other faults show in what is stored alone, as of
-/// a store that a zero empties: the next sample searches and finds the same.
+/// How a store goes wrong so that answers show it. Other faults show in what is stored alone, and
+/// the program `altered` makes them visible: where a zero empties the store the next sample finds
+/// the same again, and after a load or an absolute that keeps it a reference has to follow.
 #[derive(Clone, Copy, Debug, PartialEq, Eq)]
 pub enum Fault {
-    LoadKeeps,
     ReferenceKeeps,
     PressureNotCompared,
     TemperatureNotCompared,
+    /// A search that finds nothing leaves the signal that was stored, at the new P and T.
+    SignalKept,
 }
 
 pub const FAULTS: [Fault; 4] = [
-    Fault::LoadKeeps,
     Fault::ReferenceKeeps,
     Fault::PressureNotCompared,
     Fault::TemperatureNotCompared,
+    Fault::SignalKept,
 ];
 
 fn is_at(finding: &Finding, air: &Air, fault: Option<Fault>) -> bool {
@@ -45,10 +47,8 @@ fn is_at(finding: &Finding, air: &Air, fault: Option<Fault>) -> bool {
 /// The kinds that empty the store where they are accepted: load, reference and absolute.
 fn empties(kind: u8, fault: Option<Fault>) -> bool {
     match kind {
-        1 => fault != Some(Fault::LoadKeeps),
         4 => fault != Some(Fault::ReferenceKeeps),
-        5 => true,
-        _ => false,
+        _ => [1, 5].contains(&kind),
     }
 }
 
@@ -67,7 +67,9 @@ pub fn step(
         }
         _ => {
             let found = rules::reference_signal(sheet, cylinder, air);
-            kept.set(Some(Finding { p: air.p, t: air.t, found: found.ok() }));
+            let left = stored.filter(|_| fault == Some(Fault::SignalKept));
+            let signal = found.ok().or(left.and_then(|finding| finding.found));
+            kept.set(Some(Finding { p: air.p, t: air.t, found: signal }));
             found
         }
     };
@@ -85,8 +87,7 @@ pub fn walk(
     let mut before = (State::fresh(), None);
     session.events.iter().map(move |record| {
         let (state, stored) = before;
-        let (answer, next, kept) =
-            step(fault, &session.sheets, (&state, stored), &record.entry());
+        let (answer, next, kept) = step(fault, &session.sheets, (&state, stored), &record.entry());
         before = (next, kept);
         (state, stored, answer)
     })

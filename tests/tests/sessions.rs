@@ -17,7 +17,7 @@ use irga_tests::store::{self, Finding, Stored};
 /// Some thousands of them, made once.
 fn files() -> &'static [Vec<u8>] {
     static FILES: OnceLock<Vec<Vec<u8>>> = OnceLock::new();
-    FILES.get_or_init(|| (0..5_000).map(|number| sessions::make(0x6271, number).file).collect())
+    FILES.get_or_init(|| (0..6_000).map(|number| sessions::make(0x6271, number).file).collect())
 }
 
 fn sound() -> impl Iterator<Item = Session> {
@@ -326,8 +326,9 @@ fn findings_stored_taken_and_emptied() {
     assert!(met.taken >= 10_000 && met.nothing_taken >= 100, "{met:?}");
     let left = [met.after_zero, met.after_refused_reference, met.after_6];
     let searched = [met.searched_empty, met.other_p, met.other_t, met.other_both, met.returned];
-    for counts in [&left[..], &searched, &met.stored_refused, &met.taken_from_refused, &met.emptied] {
-        assert!(counts.iter().all(|count| *count >= 50), "{met:?}");
+    for counts in [&left[..], &searched, &met.stored_refused, &met.taken_from_refused, &met.emptied]
+    {
+        assert!(counts.iter().all(|count| *count >= 40), "{met:?}");
     }
 }
 

@@ -2,9 +2,9 @@
 //
 // What `stdout` holds, and where it comes from. First, for two values of K, what `step` answers to a sample at the stored P and T (refusal, R,
 // wet, dry), and beside it what the rules give with that R, by the reading alone. Then what an event does to a stored 30,000,000, which no search
-// finds there: its answer, and that of a sample after it, whose R is 30,000,000 where the finding was left and 40,000,000 where it was searched for
-// again. All of it was computed by the independent implementation in tests/, which works from documents 01 and 02 alone, and a test holds the file
-// to it; but for the last line, a record that the engine does not work with, whose refusal 1 is ours.
+// finds there: its answer, what stands stored after it, and the answer of a sample at that P and T. All of it was computed by the independent
+// implementation in tests/, which works from documents 01 and 02 alone, and a test holds the file to it; but for the last line, a record that the
+// engine does not work with, whose refusal 1 is ours.
 ghost use mathlib.Core.Path.{_≡_};
 ghost use mathlib.Core.Bool.{true};
 ghost use Prim.Native.Nat.{_≤_};
@@ -65,15 +65,11 @@ fn main() {
     findings(10000000);
     io::write_all(
         STDOUT_FILENO,
-        b"after | its answer | a sample at the stored P and T\n",
+        b"event | its answer | stored after it | a sample at P 101300, T 29815\n",
     );
     settings();
     samples();
-    io::write_all(
-        STDOUT_FILENO,
-        b"the same with K 10000000, where nothing is found\n",
-    );
-    nothing_found();
+    others();
 }
 
 // Reference signals from 0 to 150,000,000, at the smaller K and above it too, and nothing.
@@ -116,7 +112,7 @@ fn print_step(k: u64, found: Found, at: Measurement)
 {
     let stepped = step(
         &SHEETS,
-        holding(k, found),
+        holding(k, found, reference_mode(0)),
         Entry::Known(Event::Sample { at }),
     );
     let answer = stepped.answer;
@@ -127,20 +123,20 @@ fn print_step(k: u64, found: Found, at: Measurement)
 fn print_rules(k: u64, found: Found, at: Measurement)
     requires { ⌜ (10000000 ≤ k) × (k ≤ 400000000) × (foundValue found ≤ 150000000) ⌝ }
 {
-    let sampled = sample_on(bench_sheet(k), 0, 1000000, reference_mode(), at, found);
+    let sampled = sample_on(bench_sheet(k), 0, 1000000, reference_mode(0), at, found);
     print_sampled(sampled);
     io::write_all(STDOUT_FILENO, b"\n");
 }
 
-// The bench sheet with this K, against the reference, altered to hold this finding at P 101,300 and T 29,815.
-fn holding(k: u64, found: Found) -> State
+// The bench sheet with this K in this mode, altered to hold this finding at P 101,300 and T 29,815.
+fn holding(k: u64, found: Found, mode: Mode) -> State
     requires { ⌜ (10000000 ≤ k) × (k ≤ 400000000) × (foundValue found ≤ 4000000000) ⌝ }
 {
     State {
         loaded: Loaded::One(bench_sheet(k)),
         q: 0,
         s: 1000000,
-        mode: reference_mode(),
+        mode,
         stored: stored_there(found),
         integration: Integration::Idle,
     }
@@ -175,87 +171,16 @@ fn bench_sheet(k: u64) -> Sheet
     }
 }
 
-fn reference_mode() -> Mode
+// Against the cylinder 1,000,000,000 with this vapour pressure.
+fn reference_mode(e: u64) -> Mode
+    requires { ⌜ e ≤ 11500 ⌝ }
     ensures { λ r. ⌜ modeWithin r ≡ true ⌝ }
 {
-    Mode::Against(Cylinder {
-        c: 1000000000,
-        e: 0,
-    })
+    Mode::Against(Cylinder { c: 1000000000, e })
 }
 
 fn measured(raw: i32, p: u32, t: u32) -> Measurement {
     Measurement { raw, p, t, e: 0 }
-}
-
-// Events other than samples. After a load and an absolute the reference is set again.
-fn settings() {
-    let reference = Event::Reference {
-        cylinder: 1000000000,
-        e: 0,
-    };
-    shows(b"zero 0", Event::Zero { raw: 0 }, Event::Start);
-    shows(
-        b"zero 20000001",
-        Event::Zero { raw: 20000001 },
-        Event::Start,
-    );
-    let at = measured(50000000, 101300, 29815);
-    shows(
-        b"span",
-        Event::Span {
-            at,
-            cylinder: 1000000000,
-        },
-        Event::Start,
-    );
-    shows(
-        b"reference e 11501",
-        Event::Reference {
-            cylinder: 1000000000,
-            e: 11501,
-        },
-        Event::Start,
-    );
-    shows(b"reference", reference, Event::Start);
-    shows(b"absolute, reference", Event::Absolute, reference);
-    shows(b"load 1", Event::Load { index: 1 }, Event::Start);
-    shows(b"load 0, reference", Event::Load { index: 0 }, reference);
-    shows(b"start, stop", Event::Start, Event::Stop);
-    shows(b"area", Event::Area, Event::Start);
-}
-
-// Samples at the stored P and T, at another P or T, and back: what another one finds stays stored, unless it is refused with 6.
-fn samples() {
-    shows(
-        b"raw -100000000",
-        sampled(-100000000, 101300, 29815),
-        Event::Start,
-    );
-    shows(
-        b"raw 150000001",
-        sampled(150000001, 101300, 29815),
-        Event::Start,
-    );
-    shows(b"P 101299", sampled(0, 101299, 29815), Event::Start);
-    shows(b"T 29814", sampled(0, 101300, 29814), Event::Start);
-    shows(
-        b"P 101299, raw -100000000",
-        sampled(-100000000, 101299, 29815),
-        Event::Start,
-    );
-    shows(
-        b"P 101299, raw 150000000",
-        sampled(150000000, 101299, 29815),
-        Event::Start,
-    );
-    shows(
-        b"P 101299, raw 150000001",
-        sampled(150000001, 101299, 29815),
-        Event::Start,
-    );
-    shows(b"P 59999", sampled(0, 59999, 29815), Event::Start);
-    shows(b"T 32316", sampled(0, 101300, 32316), Event::Start);
 }
 
 fn sampled(raw: i32, p: u32, t: u32) -> Event {
@@ -264,47 +189,151 @@ fn sampled(raw: i32, p: u32, t: u32) -> Event {
     }
 }
 
-fn shows(label: &[u8], first: Event, second: Event) {
-    io::write_all(STDOUT_FILENO, label);
-    shows_from(holding(200000000, Found::At(30000000)), first, second);
+// Events other than samples, of which a load, a reference and an absolute empty the store where they are accepted.
+fn settings() {
+    let at = measured(50000000, 101300, 29815);
+    known(b"zero 0", Event::Zero { raw: 0 });
+    known(b"zero 20000001", Event::Zero { raw: 20000001 });
+    known(
+        b"span",
+        Event::Span {
+            at,
+            cylinder: 1000000000,
+        },
+    );
+    known(
+        b"reference",
+        Event::Reference {
+            cylinder: 1000000000,
+            e: 0,
+        },
+    );
+    known(
+        b"reference e 11501",
+        Event::Reference {
+            cylinder: 1000000000,
+            e: 11501,
+        },
+    );
+    known(b"absolute", Event::Absolute);
+    known(b"load 0", Event::Load { index: 0 });
+    known(b"load 1", Event::Load { index: 1 });
+    known(b"start", Event::Start);
+    known(b"stop", Event::Stop);
+    known(b"area", Event::Area);
 }
 
-// Two events from a record, and then a sample at the stored P and T: the answers of the first and of the sample.
-fn shows_from(st: State, first: Event, second: Event) {
-    let one = step(&SHEETS, st, Entry::Known(first));
-    let after_one = one.state;
+// Samples at the stored P and T, and at others: what is found there stays stored, also where the sample is refused, unless it is with 6.
+fn samples() {
+    known(b"sample", sampled(0, 101300, 29815));
+    known(b"raw -100000000", sampled(-100000000, 101300, 29815));
+    known(b"raw 150000001", sampled(150000001, 101300, 29815));
+    known(b"P 101299", sampled(0, 101299, 29815));
+    known(b"T 29814", sampled(0, 101300, 29814));
+    known(
+        b"P 101299, raw -100000000",
+        sampled(-100000000, 101299, 29815),
+    );
+    known(
+        b"P 101299, raw 150000000",
+        sampled(150000000, 101299, 29815),
+    );
+    known(
+        b"P 101299, raw 150000001",
+        sampled(150000001, 101299, 29815),
+    );
+    known(b"P 59999", sampled(0, 59999, 29815));
+    known(b"T 32316", sampled(0, 101300, 32316));
+}
+
+// Malformed events; a damp cylinder, whose 10er is above P; K 10,000,000, under which nothing is found; absolute mode, in which no list of
+// events leaves a finding; and a signal that the engine does not work with.
+fn others() {
+    shows(b"malformed, kind 6", bench_holding(), Entry::Malformed(6));
+    shows(b"malformed, kind 1", bench_holding(), Entry::Malformed(1));
+    let damp = holding(200000000, Found::At(30000000), reference_mode(6001));
+    shows(
+        b"er 6001, P 60010",
+        damp,
+        Entry::Known(sampled(0, 60010, 29815)),
+    );
+    shows(
+        b"er 6001, P 60009",
+        damp,
+        Entry::Known(sampled(0, 60009, 29815)),
+    );
+    let narrow = holding(10000000, Found::At(3000000), reference_mode(0));
+    shows(
+        b"K 10000000, P 101299",
+        narrow,
+        Entry::Known(sampled(0, 101299, 29815)),
+    );
+    let absolute = holding(200000000, Found::At(30000000), Mode::Absolute);
+    shows(
+        b"absolute mode, P 101299",
+        absolute,
+        Entry::Known(sampled(0, 101299, 29815)),
+    );
+    let at = measured(50000000, 101300, 29815);
+    shows(
+        b"absolute mode, span",
+        absolute,
+        Entry::Known(Event::Span {
+            at,
+            cylinder: 1000000000,
+        }),
+    );
+    let beyond = holding(200000000, Found::At(150000001), reference_mode(0));
+    shows(b"R 150000001, start", beyond, Entry::Known(Event::Start));
+}
+
+fn known(label: &[u8], event: Event) {
+    shows(label, bench_holding(), Entry::Known(event));
+}
+
+fn bench_holding() -> State {
+    holding(200000000, Found::At(30000000), reference_mode(0))
+}
+
+// An entry at a record: its answer, what stands stored after it, and the answer of a sample then.
+fn shows(label: &[u8], st: State, entry: Entry) {
+    let one = step(&SHEETS, st, entry);
     let answer = one.answer;
-    let two = step(&SHEETS, after_one, Entry::Known(second));
-    let after_two = two.state;
-    let three = step(&SHEETS, after_two, Entry::Known(sampled(0, 101300, 29815)));
-    let last = three.answer;
+    let after = one.state;
+    let stored = after.stored;
+    let two = step(&SHEETS, after, Entry::Known(sampled(0, 101300, 29815)));
+    let last = two.answer;
+    io::write_all(STDOUT_FILENO, label);
     io::write_all(STDOUT_FILENO, b" | ");
     print_answer(answer);
+    io::write_all(STDOUT_FILENO, b" | ");
+    print_stored(stored);
     io::write_all(STDOUT_FILENO, b" | ");
     print_answer(last);
     io::write_all(STDOUT_FILENO, b"\n");
 }
 
-// With K 10,000,000 no signal reads the cylinder: a sample at another P is refused with 9, and that nothing was found stays stored.
-fn nothing_found() {
-    io::write_all(STDOUT_FILENO, b"P 101299");
-    shows_from(
-        holding(10000000, Found::At(3000000)),
-        sampled(0, 101299, 29815),
-        Event::Start,
-    );
-    io::write_all(STDOUT_FILENO, b"P 101300");
-    shows_from(
-        holding(10000000, Found::At(3000000)),
-        sampled(0, 101300, 29815),
-        Event::Start,
-    );
-    io::write_all(STDOUT_FILENO, b"R 150000001");
-    shows_from(
-        holding(10000000, Found::At(150000001)),
-        Event::Start,
-        Event::Start,
-    );
+fn print_stored(stored: Stored) {
+    match stored {
+        Stored::Empty => {
+            io::write_all(STDOUT_FILENO, b"empty");
+        }
+        Stored::At { p, t, r } => {
+            print_place(p, t);
+            io::print_decimal(STDOUT_FILENO, r as u64);
+        }
+        Stored::Nothing { p, t } => {
+            print_place(p, t);
+            io::write_all(STDOUT_FILENO, b"nothing");
+        }
+    }
+}
+
+fn print_place(p: u32, t: u32) {
+    io::print_decimal(STDOUT_FILENO, p as u64);
+    io::write_all(STDOUT_FILENO, b" ");
+    io::print_decimal(STDOUT_FILENO, t as u64);
+    io::write_all(STDOUT_FILENO, b" ");
 }
 
 fn print_case(k: u64, found: Found, raw: i32) {

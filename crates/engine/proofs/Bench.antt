@@ -104,6 +104,7 @@ starred-cases =
       raw-0 = low-first Integration.Idle;
       raw-10000000 = high-first Integration.Idle;
       raw-minus = rw (starred-references .reference);
+      stored-30000000 = refl;
       k-10000000 = ap (λ (f : Found). sampleRead (smallState (foundThere f)) (measuring (pos 0) 101300 29815 0)) (nothing (referenceOf smallSheet 1000000000 benchAir) (starred-references .k-10000000));
       span-800000 = ap spanned (starred-references .span-800000);
       span-2000000 = ap spanned (starred-references .span-2000000);

@@ -1,5 +1,5 @@
--- The starred cases of document 01, "Readings on the bench", as R-1 and R-5 have them, with R-1's two limits and R-5's flat line, as one fact
--- about the rules: each as what `rules` answers to an entry at a named state, and the state that it leaves. Assumes nothing.
+-- The starred cases of document 01, "Readings on the bench", as R-1, R-5 and R-7 have them, with R-1's two limits, R-5's flat line and a stored
+-- finding that no search gives (R-7), as one fact about the rules: each as what `rules` answers to an entry at a named state, and the state that it leaves. Assumes nothing.
 use mathlib.Core.List.{List, [], _∷_}
 use mathlib.Core.Path.{_≡_}
 use Prim.Native.Nat.{ℕ}
@@ -109,8 +109,8 @@ pub record StarredCases : Type 0 where
   pub e-2000 : Answers benchState (sampleIn (pos 40456000) 100000 29815 2000) (Answer.Reading 0 (pos 1034193379) (pos 1055299366))
   pub e-10001 : Answers benchState (sampleIn (pos 40456000) 100000 29815 10001) (Answer.Refused 6)
   pub e-10000 : Passes benchState (sampleIn (pos 40456000) 100000 29815 10000)
-  -- reference 1,000,000,000: R 40,000,000, which stays stored (R-7); raw 0, 10,000,000 and −10,000,000; with K 10,000,000 refusal 9, and that
-  -- nothing was found stays stored
+  -- reference 1,000,000,000: R 40,000,000, which stays stored (R-7); raw 0, 10,000,000 and −10,000,000; raw 0 with 30,000,000 stored; with K
+  -- 10,000,000 refusal 9, and that nothing was found stays stored
   pub reference : AnswersLeaving benchState (Entry.Known (Event.Reference 1000000000 0)) Answer.Done (referenceState Stored.Empty)
   pub raw-0 :
       AnswersLeaving (referenceState Stored.Empty) (sample (pos 0)) (Answer.Reading 40000000 (pos 1000000000) (pos 1000000000))
@@ -121,6 +121,7 @@ pub record StarredCases : Type 0 where
   pub raw-minus :
       AnswersLeaving (referenceState Stored.Empty) (sample (negsuc 9999999)) (Answer.Reading 40000000 (pos 695040000) (pos 695040000))
       (referenceState (foundThere (Found.At 40000000)))
+  pub stored-30000000 : Answers (referenceState (foundThere (Found.At 30000000))) (sample (pos 0)) (Answer.Reading 30000000 (pos 630000000) (pos 630000000))
   pub k-10000000 : AnswersLeaving (smallState Stored.Empty) (sample (pos 0)) (Answer.Refused 9) (smallState (foundThere Found.Nothing))
   -- span to 1,000,000,000: the answer, and the S that it leaves; refusal 5 leaves the old one
   pub span-800000 : AnswersLeaving benchState (spanTo (pos 50000000)) (Answer.Spanned 800000) (spanState 800000)

@@ -1,38 +1,42 @@
--- R-7's claims hold, for every list of sheets and every list of entries. Assumes nothing.
-use mathlib.Core.Bool.{true, false}
+-- R-7's claims hold, for every list of sheets, every list of entries and every record that the code works with. Assumes nothing.
+use mathlib.Core.Bool.{Bool, true, false, cond}
 use mathlib.Core.List.{List, []}
 use mathlib.Core.Path.{_≡_, refl, sym, ap, subst, _∙_}
 use Prim.Native.Nat.{ℕ, _≤_}
 use native.Mathlib.Omega.{arith}
-use lib.Dec.{T}
+use borrow.Author.Tests.{ne-eqb}
+use lib.Dec.{T, eqb}
 use Rattle.curve.specs.declared.Sheet.{Sheet}
 use Rattle.curve.specs.Absolute.{absoluteOf}
+use Rattle.curve.proofs.Within.{range}
 use Rattle.reference.specs.declared.Found.{Found}
-use Rattle.reference.specs.Search.{foundValue}
+use Rattle.reference.specs.Search.{foundValue, referenceOf}
 use Rattle.reference.specs.Signal.{signalOf, againstOf}
 use Rattle.sampling.specs.declared.Cylinder.{Cylinder}
 use Rattle.sampling.specs.declared.Mode.{Mode}
 use Rattle.sampling.specs.declared.Measurement.{Measurement}
 use Rattle.sampling.specs.declared.Sampled.{Sampled}
-use Rattle.sampling.specs.Sample.{airOf, checkedOn, valuesOf, sampledOn}
+use Rattle.sampling.specs.Sample.{airOf, checkedOn, referenceAir, searchedOf, valuesOf, sampledOn}
 use Rattle.store.specs.declared.Stored.{Stored}
-use Rattle.store.specs.Store.{isAt, storedWithin, findingIn}
-use Rattle.store.proofs.Keeping.{as-within, finding-as, is-at-as}
+use Rattle.store.specs.Store.{isAt, storedWithin}
+use Rattle.store.proofs.Keeping.{left-absolute, left-by-6, replaced, as-within, finding-as, is-at-as}
 use Rattle.rules.specs.declared.Loaded.{Loaded}
 use Rattle.rules.specs.declared.State.{State}
 use Rattle.rules.specs.declared.Entry.{Entry}
 use Rattle.rules.specs.declared.Stepped.{Stepped}
+use Rattle.rules.specs.Answer.{accepted}
 use Rattle.rules.specs.Rules.{fresh}
 use Rattle.rules.specs.Limits.{workable}
-use Rattle.events.specs.Sample.{withStored, storing, sampledOf, searchedFor}
-use Rattle.events.specs.Events.{sampleBy, sampleRead}
 use Rattle.rules.proofs.Workable.{work-holding}
-use Rattle.events.proofs.Stored.{storing-at, agrees-in, same-sample}
+use Rattle.events.specs.Sample.{storedUnder, withStored, storing, sampledOf}
+use Rattle.events.specs.Events.{sampleBy, sampleRead}
+use Rattle.events.proofs.Stored.{stored-under, storing-at}
 use Rattle.engine.specs.Step.{stepOf}
 use Rattle.engine.specs.Transcript.{leaves}
 use Rattle.engine.proofs.Laws.{by-rules}
-use Rattle.ledger.proofs.Demand3.{Kept, from-fresh}
-use Rattle.findings.specs.Claim.{sampleOf, foundAt, StoreHolds, AlteredHolds, Altered}
+use Rattle.engine.proofs.Cases.{closing, Ruled, refuses, malformed, loads, zeroes, spans, refers, samples, closes, starts, stops, totals, ruled}
+use Rattle.ledger.proofs.Demand3.{from-fresh}
+use Rattle.findings.specs.Claim.{sampleOf, foundAt, storedAfter, empties, Searches, SearchesNot, no-sheet, by-6, stored-there, StoreMoves, StoreHolds, AlteredHolds, ReferenceStored}
 use Rattle.findings.proofs.Searching.{same}
 
 pub store-holds : (sheets : List ℕ) (entries : List Entry) → StoreHolds sheets entries
@@ -41,18 +45,84 @@ store-holds sheets entries =
     let s = same sheets fresh (from-fresh sheets []) entries in
     record { searched = k .searched; answers = s .0; states = s .1 }
 
-module _ (sheets : List ℕ) (st : State) (k : Kept st) where
-  -- ---- at the stored P and T
-  module _ (at : Measurement) (f : Found) (h : foundValue f ≤ 150000000) where
-    abbrev holds : State
-    holds = withStored st (foundAt at f)
+-- ---- what each event does
+module _ (sheets : List ℕ) (st : State) (w : workable st ≡ true) where
+  abbrev Leaves : Entry → Stepped → Type 0
+  Leaves entry r = (empties entry ≡ true → accepted (r .answer) ≡ false → r .state .stored ≡ st .stored)
+      × (empties entry ≡ true → accepted (r .answer) ≡ true → r .state .stored ≡ Stored.Empty)
+      × (empties entry ≡ false → ((at : Measurement) → entry ≡ sampleOf at → ⊥) → r .state .stored ≡ st .stored)
 
-    with-finding : stepOf sheets holds (sampleOf at) ≡ sampleBy holds (sampledOf st at f)
-    unfolding sampledOf
-    with-finding =
-        by-rules sheets holds (sampleOf at) (work-holding st (foundAt at f) (k .works) (as-within (at .p) (at .t) f h))
-        ∙ ap (λ (x : Stored). sampleRead (withStored st x) at) (storing-at holds at (is-at-as at f))
-        ∙ ap (λ (g : Found). sampleBy holds (sampledOf st at g)) (finding-as (at .p) (at .t) f)
+  -- case by case; a refusal's number is never 0
+  moved : {entry : Entry} {r : Stepped} → Ruled sheets st entry r → Leaves entry r
+  moved (refuses {number = number} k n) =
+      let m = range 1 11 number n in
+      (λ e f. refl, λ e f. absurd (subst T (sym f ∙ ne-eqb number 0 (omega arith)) tt), λ e f. refl)
+  moved (malformed {kind}) =
+      (λ e f. absurd (subst T (sym e) tt), λ e f. absurd (subst T (sym e) tt), λ e f. go (eqb kind 6))
+    where
+      go : (t : Bool) → cond t (closing st) st .stored ≡ st .stored
+      go true = refl
+      go false = refl
+  moved (loads e s) = (λ e f. absurd (subst T f tt), λ e f. refl, λ e f. absurd (subst T e tt))
+  moved (zeroes n) = (λ e f. refl, λ e f. absurd (subst T (sym e) tt), λ e f. refl)
+  moved (spans low high) = (λ e f. refl, λ e f. absurd (subst T (sym e) tt), λ e f. refl)
+  moved (refers g) = (λ e f. absurd (subst T f tt), λ e f. refl, λ e f. absurd (subst T e tt))
+  moved Ruled.absolute = (λ e f. absurd (subst T f tt), λ e f. refl, λ e f. absurd (subst T e tt))
+  moved (samples {at} x) = (λ e f. absurd (subst T (sym e) tt), λ e f. absurd (subst T (sym e) tt), λ e f. absurd (f at refl))
+  moved (closes {at} n) = (λ e f. absurd (subst T (sym e) tt), λ e f. absurd (subst T (sym e) tt), λ e f. absurd (f at refl))
+  moved starts = (λ e f. refl, λ e f. absurd (subst T (sym e) tt), λ e f. refl)
+  moved stops = (λ e f. refl, λ e f. absurd (subst T (sym e) tt), λ e f. refl)
+  moved (totals i) = (λ e f. refl, λ e f. absurd (subst T (sym e) tt), λ e f. refl)
+
+  leaves-it : (entry : Entry) → Leaves entry (stepOf sheets st entry)
+  leaves-it entry = rw (by-rules sheets st entry w) (moved (ruled sheets st entry))
+
+  -- a sample leaves what the definition says, whatever its answer
+  by-sample : (at : Measurement) → storedAfter sheets st (sampleOf at) ≡ storing st at .stored
+  by-sample at = ap (λ (r : Stepped). r .state .stored) (by-rules sheets st (sampleOf at) w)
+
+  sample-leaves : (at : Measurement) → SearchesNot st at → storing st at .stored ≡ st .stored
+  sample-leaves at (no-sheet e) = ap (λ (l : Loaded). storedUnder l (st .mode) at (st .stored)) e
+  sample-leaves at (SearchesNot.absolute e) = go (st .loaded)
+    where
+      go : (l : Loaded) → storedUnder l (st .mode) at (st .stored) ≡ st .stored
+      go Loaded.Nothing = refl
+      go (Loaded.One s) = left-absolute s at (st .stored) e
+  sample-leaves at (by-6 e) = go (st .loaded)
+    where
+      go : (l : Loaded) → storedUnder l (st .mode) at (st .stored) ≡ st .stored
+      go Loaded.Nothing = refl
+      go (Loaded.One s) = left-by-6 s at (st .stored) (st .mode) e
+  sample-leaves at (stored-there e) = storing-at st at e
+
+-- a sample that searches stores what it finds
+searches-stores : (st : State) (s : Sheet) (gas : Cylinder) (at : Measurement) → Searches st s gas at
+    → storing st at .stored ≡ foundAt at (referenceOf s (gas .c) (referenceAir (airOf at) gas))
+searches-stores st s gas at h =
+    stored-under (st .mode) at (st .stored) (h .loaded)
+    ∙ replaced s at (st .stored) (h .mode) (subst (λ (m : Mode). checkedOn m at ≡ true) (sym (h .mode)) (h .checked)) (h .other)
+    ∙ ap (λ (m : Mode). foundAt at (searchedOf s m (airOf at))) (h .mode)
+
+store-moves : (sheets : List ℕ) (st : State) → workable st ≡ true → StoreMoves sheets st
+store-moves sheets st w =
+    record {
+      emptied = λ entry. leaves-it sheets st w entry .1;
+      refused-leaves = λ entry. leaves-it sheets st w entry .0;
+      other-leaves = λ entry. leaves-it sheets st w entry .2;
+      replaced = λ s gas at h. by-sample sheets st w at ∙ searches-stores st s gas at h;
+      sample-leaves = λ at h. by-sample sheets st w at ∙ sample-leaves sheets st w at h;
+    }
+
+-- ---- a record that was altered
+module _ (sheets : List ℕ) (st : State) (w : workable st ≡ true) where
+  -- at the stored P and T
+  with-finding : (at : Measurement) (f : Found) → foundValue f ≤ 150000000
+      → stepOf sheets (withStored st (foundAt at f)) (sampleOf at) ≡ sampleBy (withStored st (foundAt at f)) (sampledOf st at f)
+  unfolding sampledOf
+  with-finding at f h =
+      by-rules sheets (withStored st (foundAt at f)) (sampleOf at) (work-holding st (foundAt at f) w (as-within (at .p) (at .t) f h))
+      ∙ ap (λ (x : Stored). sampleRead (withStored st x) at) (storing-at (withStored st (foundAt at f)) at (is-at-as at f))
+      ∙ ap (λ (g : Found). sampleBy (withStored st (foundAt at f)) (sampledOf st at g)) (finding-as (at .p) (at .t) f)
 
   module _ (s : Sheet) (gas : Cylinder) (l : st .loaded ≡ Loaded.One s) (m : st .mode ≡ Mode.Against gas) (at : Measurement)
       (c : checkedOn (Mode.Against gas) at ≡ true) where
@@ -65,20 +135,15 @@ module _ (sheets : List ℕ) (st : State) (k : Kept st) where
     unfolding sampledOf sampledOn
     nothing-read = rw (l, m, c)
 
-  -- ---- at another P or T: where a sample searches, its answer is the one that it gets with what is found
-  module _ (at : Measurement) where
-    by-search : (u : State) → workable u ≡ true → (isAt (u .stored) at ≡ true → findingIn (u .stored) ≡ searchedFor u at)
-        → stepOf sheets u (sampleOf at) .answer ≡ sampleBy st (sampledOf u at (searchedFor u at)) .answer
-    by-search u w h =
-        ap (λ (r : Stepped). r .answer) (by-rules sheets u (sampleOf at) w)
-        ∙ ap (λ (x : Sampled). sampleBy st x .answer) (same-sample u at h)
-
-    elsewhere : (x : Stored) → storedWithin x ≡ true → isAt x at ≡ false
-        → stepOf sheets (withStored st x) (sampleOf at) .answer ≡ stepOf sheets st (sampleOf at) .answer
-    unfolding sampledOf
-    elsewhere x w e =
-        by-search (withStored st x) (work-holding st x (k .works) w) (λ t. absurd (subst T (sym t ∙ e) tt))
-        ∙ sym (by-search st (k .works) (agrees-in st at (k .searched)))
+  -- at another P or T: two records alike but for what is stored, both of which search
+  elsewhere : (s : Sheet) (gas : Cylinder) (at : Measurement) (x : Stored) → storedWithin x ≡ true → Searches (withStored st x) s gas at
+      → stepOf sheets (withStored st x) (sampleOf at) ≡ stepOf sheets (withStored st Stored.Empty) (sampleOf at)
+  elsewhere s gas at x v h =
+      let none : Searches (withStored st Stored.Empty) s gas at = record { loaded = h .loaded; mode = h .mode; checked = h .checked; other = refl } in
+      by-rules sheets (withStored st x) (sampleOf at) (work-holding st x w v)
+      ∙ ap (λ (y : Stored). sampleRead (withStored st y) at) (searches-stores (withStored st x) s gas at h)
+      ∙ sym (ap (λ (y : Stored). sampleRead (withStored st y) at) (searches-stores (withStored st Stored.Empty) s gas at none))
+      ∙ sym (by-rules sheets (withStored st Stored.Empty) (sampleOf at) (work-holding st Stored.Empty w refl))
 
   altered-holds : AlteredHolds sheets st
   altered-holds =
@@ -87,9 +152,10 @@ module _ (sheets : List ℕ) (st : State) (k : Kept st) where
         with-signal = λ s gas l m at c r h.
             with-finding at (Found.At r) h ∙ ap (λ (x : Sampled). sampleBy (withStored st (foundAt at (Found.At r))) x) (signal-read s gas l m at c r);
         with-nothing = λ s gas l m at c.
-            with-finding at Found.Nothing (omega arith) ∙ ap (λ (x : Sampled). sampleBy (withStored st (foundAt at Found.Nothing)) x) (nothing-read s gas l m at c);
+            with-finding at Found.Nothing (omega arith)
+            ∙ ap (λ (x : Sampled). sampleBy (withStored st (foundAt at Found.Nothing)) x) (nothing-read s gas l m at c);
         elsewhere = elsewhere;
       }
 
-pub altered : (sheets : List ℕ) (entries : List Entry) → Altered sheets entries
-altered sheets entries = altered-holds sheets (leaves sheets fresh entries) (from-fresh sheets entries)
+pub reference-stored : (sheets : List ℕ) → ReferenceStored sheets
+reference-stored sheets = record { moves = store-moves sheets; holds = store-holds sheets; altered = altered-holds sheets }

@@ -1,4 +1,4 @@
-// Document 01, "Engine and events": the state, the nine kinds of event with their answers, and the rule of each kind.
+// Document 01, "Engine and events": the state, the nine kinds of event with their answers, and the rules of kinds 1 to 5.
 ghost use mathlib.Core.Path.{_≡_};
 ghost use Rattle.rules.specs.Rules.{fresh};
 use counting::Integration;

@@ -22,6 +22,37 @@ use Rattle.store.specs.Store.{isAt, storedAs, findingIn, storedOn, store
 pub stored-size : (x : Stored) → storedWithin x ≡ true → foundValue (findingIn x) ≤ 150000000
 stored-size x e = leb-true (foundValue (findingIn x)) 150000000 e
 
+-- a sample that fails check 6 leaves what is stored, and so does one in absolute mode
+module _ (s : Sheet) (at : Measurement) (x : Stored) where
+  pub left-by-6 : (mode : Mode) → checkedOn mode at ≡ false → storedOn s mode at x ≡ x
+  unfolding storedOn
+  left-by-6 Mode.Absolute c = refl
+  left-by-6 (Mode.Against gas) c = rw c
+
+  pub left-absolute : {mode : Mode} → mode ≡ Mode.Absolute → storedOn s mode at x ≡ x
+  unfolding storedOn
+  left-absolute m = rw m
+
+-- at the stored P and T nothing is searched for
+pub stays-at : (s : Sheet) (mode : Mode) (at : Measurement) (x : Stored) → isAt x at ≡ true → storedOn s mode at x ≡ x
+unfolding storedOn
+stays-at s Mode.Absolute at x h = refl
+stays-at s (Mode.Against gas) at x h = go (checkedOn (Mode.Against gas) at)
+  where
+    go : (c : Bool) → cond c (cond (isAt x at) x (storedAs (at .p) (at .t) (searchedOf s (Mode.Against gas) (airOf at)))) x ≡ x
+    go true = rw h
+    go false = refl
+
+-- any other sample stores what a search finds
+module _ (s : Sheet) (at : Measurement) (x : Stored) where
+  pub replaced : {mode : Mode} {gas : Cylinder} → mode ≡ Mode.Against gas → checkedOn mode at ≡ true → isAt x at ≡ false
+      → storedOn s mode at x ≡ storedAs (at .p) (at .t) (searchedOf s mode (airOf at))
+  unfolding storedOn
+  replaced {gas = gas} m c e = go m (subst (λ (n : Mode). checkedOn n at ≡ true) m c)
+    where
+      go : {mode : Mode} → mode ≡ Mode.Against gas → checkedOn (Mode.Against gas) at ≡ true → storedOn s mode at x ≡ storedAs (at .p) (at .t) (searchedOf s mode (airOf at))
+      go n d = rw (n, d, e)
+
 -- whatever holds of what is stored and of what a search finds at the sample's P and T holds of what a sample leaves
 pub stored-either : (P : Stored → Type 0) (s : Sheet) (mode : Mode) (at : Measurement) (x : Stored) → P x → P (storedAs (at .p) (at .t) (searchedOf s mode (airOf at)))
     → P (storedOn s mode at x)
@@ -61,35 +92,6 @@ pub stays-searched : (s : Sheet) (mode : Mode) (at : Measurement) (x : Stored) �
 unfolding storedOn
 stays-searched s Mode.Absolute at x h = h
 stays-searched s (Mode.Against gas) at x h = stored-either (IsSearched s (Mode.Against gas)) s (Mode.Against gas) at x h (as-searched s gas (at .p) (at .t) _ refl)
-
--- at the stored P and T nothing is searched for
-pub stays-at : (s : Sheet) (mode : Mode) (at : Measurement) (x : Stored) → isAt x at ≡ true → storedOn s mode at x ≡ x
-unfolding storedOn
-stays-at s Mode.Absolute at x h = refl
-stays-at s (Mode.Against gas) at x h = go (checkedOn (Mode.Against gas) at)
-  where
-    go : (c : Bool) → cond c (cond (isAt x at) x (storedAs (at .p) (at .t) (searchedOf s (Mode.Against gas) (airOf at)))) x ≡ x
-    go true = rw h
-    go false = refl
-
--- a sample that fails check 6 leaves it, and so does one in absolute mode; any other stores what a search finds, unless it is stored
-module _ (s : Sheet) (at : Measurement) (x : Stored) where
-  pub left-by-6 : (mode : Mode) → checkedOn mode at ≡ false → storedOn s mode at x ≡ x
-  unfolding storedOn
-  left-by-6 Mode.Absolute c = refl
-  left-by-6 (Mode.Against gas) c = rw c
-
-  pub left-absolute : {mode : Mode} → mode ≡ Mode.Absolute → storedOn s mode at x ≡ x
-  unfolding storedOn
-  left-absolute m = rw m
-
-  pub replaced : {mode : Mode} {gas : Cylinder} → mode ≡ Mode.Against gas → checkedOn mode at ≡ true → isAt x at ≡ false
-      → storedOn s mode at x ≡ storedAs (at .p) (at .t) (searchedOf s mode (airOf at))
-  unfolding storedOn
-  replaced {gas = gas} m c e = go m (subst (λ (n : Mode). checkedOn n at ≡ true) m c)
-    where
-      go : {mode : Mode} → mode ≡ Mode.Against gas → checkedOn (Mode.Against gas) at ≡ true → storedOn s mode at x ≡ storedAs (at .p) (at .t) (searchedOf s mode (airOf at))
-      go n d = rw (n, d, e)
 
 -- ---- what a sample goes by
 module _ (s : Sheet) (at : Measurement) where

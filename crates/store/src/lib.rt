@@ -15,7 +15,7 @@ use sampling::air_of;
 use sampling::inputs_within;
 use sampling::searched;
 
-// Nothing, or the P and T at which was searched last, and what was found there: the signal R, or that there is none.
+// Empty, or the P and T last searched, with what was found there: R, or nothing (refusal 9).
 pub enum Stored {
     Empty,
     At { p: u32, t: u32, r: u32 },
@@ -43,8 +43,8 @@ pub fn finding_in(stored: Stored) -> Found
     }
 }
 
-// What stands stored after a sample under a sheet and a mode. It searches only against a reference, for inputs that pass check 6, and where
-// what is stored is of another P or T, which is asked first, as it is the case the least often.
+// What stands stored after a sample under a sheet and a mode. It searches only against a reference, with nothing stored or at another P or
+// T, for inputs that pass check 6. Whether the finding is of this P and T is asked before check 6, since mostly it is.
 pub fn stored_after(s: Sheet, mode: Mode, at: Measurement, stored: Stored) -> Stored
     requires { ⌜ SheetOk s × (modeWithin mode ≡ true) ⌝ }
     ensures { λ r. ⌜ r ≡ storedOn s mode at stored ⌝ }

@@ -43,9 +43,27 @@ impl<'a> Author<'a> {
             } else {
                 self.next_of_a_lesson()
             };
-            self.write_event(kind);
+            self.write_kind(kind);
+            if self.random.percent(self.profile.twin) && self.session.events.len() < length {
+                self.write_between();
+            }
         }
         self.session
+    }
+
+    /// Against a reference, an event that leaves what a search found: a zero, a reference that is
+    /// refused, or a sample that is refused with 6.
+    fn write_between(&mut self) {
+        if self.state.mode == Mode::Absolute {
+            return;
+        }
+        let (p, t, e) = fields(&self.air());
+        let event = match self.random.below(5) {
+            0 => self.zero(),
+            1 => Event::Reference { cylinder: rules::WET_LIMIT as u32 + 1, e: 0 },
+            _ => Event::Sample { raw: rules::SIGNAL_LIMIT as i32 + 1, p, t, e },
+        };
+        self.write_event(&event);
     }
 
     fn write_sheets(&mut self) {
@@ -92,9 +110,13 @@ impl<'a> Author<'a> {
         }
     }
 
-    fn write_event(&mut self, kind: u8) {
+    fn write_kind(&mut self, kind: u8) {
         let event = self.event(kind);
-        let mut record = EventRecord::of(&event);
+        self.write_event(&event);
+    }
+
+    fn write_event(&mut self, event: &Event) {
+        let mut record = EventRecord::of(event);
         if self.random.percent(self.profile.wild) {
             self.make_wild(&mut record);
         }

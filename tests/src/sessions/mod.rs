@@ -1,8 +1,9 @@
 //! Invented sessions: lessons as a class would give them, the limits and one beside
 //! them, signals over range by every ground, noise around zero, flat lines, rooms that
-//! differ in one number alone, halves at every rounding, hostile kinds, padding and fields, damaged headers and lengths, long integrations,
-//! and lists with hardly an accepted event. `plans` and `faults` invent what a writer of session files is
-//! given, and `pages` has sessions whose figures are hard to round.
+//! are hardly apart, halves at every rounding, hostile kinds, padding and fields, damaged
+//! headers and lengths, long integrations, and lists with hardly an accepted event. `plans`
+//! and `faults` invent what a writer of session files is given, and `pages` has sessions
+//! whose figures are hard to round.
 
 mod author;
 mod damage;
@@ -32,7 +33,8 @@ pub struct Profile {
     below: u64,
     /// A sample is the same as the last one.
     steady: u64,
-    /// A room is the first one but for its pressure, its temperature or its damp alone.
+    /// A room is the first one but for its pressure, its temperature or its damp; and between two
+    /// events against a reference stands one that leaves what a search found.
     twin: u64,
     /// Sheets, rooms, spans and reference gases have round numbers, whose ratios leave a half
     /// at one rounding or another.
@@ -68,8 +70,8 @@ pub const PROFILES: [Profile; 11] = [
     LESSON,
     Profile { name: "limits", weight: 24, edge: 30, over: 12, stray: 8, wild: 1, ..LESSON },
     Profile { name: "zero gas", weight: 14, edge: 20, over: 0, below: 80, ..LESSON },
-    Profile { name: "flat line", weight: 6, below: 20, steady: 90, ..LESSON },
-    Profile { name: "rooms alike", weight: 12, edge: 8, over: 8, below: 12, twin: 90, ..LESSON },
+    Profile { name: "flat line", weight: 9, below: 20, steady: 90, ..LESSON },
+    Profile { name: "rooms alike", weight: 15, edge: 10, over: 8, below: 30, twin: 60, ..LESSON },
     Profile { name: "halves", weight: 12, below: 50, round: 100, ..LESSON },
     Profile {
         name: "hostile",

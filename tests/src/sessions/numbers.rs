@@ -96,7 +96,8 @@ pub fn room(random: &mut Random) -> Air {
     Air { p, t, e }
 }
 
-/// A room that differs from another in one number alone, within the limits.
+/// A room that differs from another in its pressure, its temperature or its damp, within the limits;
+/// where its damp would be too much for its pressure, in both.
 pub fn twin_room(random: &mut Random, room: &Air) -> Air {
     let steps = [-2_000, -200, -20, -1, 1, 20, 200, 2_000];
     let step = random.pick(&steps);

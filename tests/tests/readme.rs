@@ -8,7 +8,7 @@ use irga_tests::file::{self, EventRecord, Session};
 use irga_tests::harness::SESSIONS;
 use irga_tests::hostile;
 use irga_tests::rules::{self, Air, Refusal};
-use irga_tests::{ledger, lesson, page};
+use irga_tests::{ledger, lesson, pace, page};
 
 const README: &str = include_str!("../../README.md");
 const SPEED: &str = include_str!("../../docs/SPEED.md");
@@ -539,12 +539,14 @@ fn rate(name: &str) -> String {
 #[test]
 fn rates_are_those_of_the_page_on_speed() {
     assert_says(&format!(
-        "reads more than {} samples a second in absolute mode and {} against a reference,",
+        "reads more than {} samples a second in absolute mode, {} against a reference while \
+         pressure and temperature stay the same, and {} where they move at every sample,",
         rate("samples, absolute"),
+        rate("the same, P and T still"),
         rate("samples against a reference")
     ));
     assert_says("it is faster than the independent Rust implementation in each case measured");
-    for case in ["samples, absolute", "samples against a reference", "lessons of 2,700 events"] {
+    for case in pace::cases().map(|case| case.name) {
         let rates = rates(case);
         assert_eq!(rates.len(), 2, "{case}: a row in each table");
         assert!(rates.iter().all(|(_, ratio)| *ratio > 1.0), "{case}");

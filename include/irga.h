@@ -149,7 +149,9 @@ enum irga_refusal {
  *
  * Returns IRGA_ACCEPTED, IRGA_MALFORMED_FILE or IRGA_OUTPUT_TOO_SHORT (out_length below
  * 24 times the event count; a malformed file is told first). An event that is refused
- * has its number in its own answer, and the run goes on.
+ * has its number in its own answer, and the run goes on. A sample against a reference
+ * takes longest where P or T is another than in the sample before it: then the reference
+ * signal is searched for.
  *
  * Touches: with 0, the first *written bytes of out, 24 times the event count, answer by
  * answer in the events' order; with 12 or 13, *written is 0. All other bytes of out stay.

@@ -118,7 +118,9 @@ fn others() -> String {
     let narrow = holding(10_000_000, Some(3_000_000), against(0));
     let absolute = holding(200_000_000, Some(30_000_000), Mode::Absolute);
     let at = |p| Entry::Known(sample(0, p, T));
+    let damp_sample = Event::Sample { raw: 0, p: P, t: T, e: 2_000 };
     let cases = [
+        ("e 2000", bench_holding(), Entry::Known(damp_sample)),
         ("malformed, kind 6", bench_holding(), Entry::Malformed(6)),
         ("malformed, kind 1", bench_holding(), Entry::Malformed(1)),
         ("er 6001, P 60010", damp, at(60_010)),

@@ -1,7 +1,8 @@
-// R-7: records whose stored finding was altered, handed to `step`.
+// R-7: records whose stored finding was altered, handed to `step`. Document 01's bench sheet and cylinder, 1,000,000,000 with er 0, unless said; samples
+// with e 0 unless said.
 //
 // What `stdout` holds, and where it comes from. First, for two values of K, what `step` answers to a sample at the stored P and T (refusal, R,
-// wet, dry), and beside it what the rules give with that R, by the reading alone. Then what an event does to a stored 30,000,000, which no search
+// wet, dry), and beside it what the rules give with that R, by the reading alone. Then what an event does to a stored 30,000,000 (under K 10,000,000 a stored 3,000,000), which no search
 // finds there: its answer, what stands stored after it, and the answer of a sample at that P and T. All of it was computed by the independent
 // implementation in tests/, which works from documents 01 and 02 alone, and a test holds the file to it; but for the last line, a record that the
 // engine does not work with, whose refusal 1 is ours.
@@ -189,6 +190,17 @@ fn sampled(raw: i32, p: u32, t: u32) -> Event {
     }
 }
 
+// At the stored P and T, with another vapour pressure, which is the sample's alone.
+fn damp_sample(e: u32) -> Event {
+    let at = Measurement {
+        raw: 0,
+        p: 101300,
+        t: 29815,
+        e,
+    };
+    Event::Sample { at }
+}
+
 // Events other than samples, of which a load, a reference and an absolute empty the store where they are accepted.
 fn settings() {
     let at = measured(50000000, 101300, 29815);
@@ -246,9 +258,10 @@ fn samples() {
     known(b"T 32316", sampled(0, 101300, 32316));
 }
 
-// Malformed events; a damp cylinder, whose 10er is above P; K 10,000,000, under which nothing is found; absolute mode, in which no list of
+// Damp air; malformed events; a damp cylinder, whose 10er is above P; K 10,000,000, under which nothing is found; absolute mode, in which no list of
 // events leaves a finding; and a signal that the engine does not work with.
 fn others() {
+    shows(b"e 2000", bench_holding(), Entry::Known(damp_sample(2000)));
     shows(b"malformed, kind 6", bench_holding(), Entry::Malformed(6));
     shows(b"malformed, kind 1", bench_holding(), Entry::Malformed(1));
     let damp = holding(200000000, Found::At(30000000), reference_mode(6001));
@@ -363,7 +376,7 @@ fn print_sampled(x: Sampled) {
     }
 }
 
-// Refusal, m, x and y of the answers that are met here: other than samples and refusals, all 0.
+// Refusal, m, x and y of an answer.
 fn print_answer(a: Answer) {
     match a {
         Answer::Reading { r, wet, dry } => print_values(0, r, wet, dry),

@@ -18,7 +18,7 @@ use Rattle.sampling.specs.declared.Measurement.{Measurement}
 use Rattle.sampling.specs.declared.Sampled.{Sampled}
 use Rattle.sampling.specs.Sample.{airOf, checkedOn, referenceAir, searchedOf, valuesOf, sampledOn}
 use Rattle.store.specs.declared.Stored.{Stored}
-use Rattle.store.specs.Store.{isAt, storedWithin}
+use Rattle.store.specs.Store.{storedOn, storedWithin}
 use Rattle.store.proofs.Keeping.{left-absolute, left-by-6, replaced, as-within, finding-as, is-at-as}
 use Rattle.rules.specs.declared.Loaded.{Loaded}
 use Rattle.rules.specs.declared.State.{State}
@@ -46,53 +46,65 @@ store-holds sheets entries =
     record { searched = k .searched; answers = s .0; states = s .1 }
 
 -- ---- what each event does
+record Leaves (st : State) (entry : Entry) (r : Stepped) : Type 0 where
+  pub emptied : empties entry ≡ true → accepted (r .answer) ≡ true → r .state .stored ≡ Stored.Empty
+  pub refused : empties entry ≡ true → accepted (r .answer) ≡ false → r .state .stored ≡ st .stored
+  pub other : empties entry ≡ false → ((at : Measurement) → entry ≡ sampleOf at → ⊥) → r .state .stored ≡ st .stored
+
+never : {b : Bool} → b ≡ true → b ≡ false → ⊥
+never e f = subst T (sym e ∙ f) tt
+
+module _ {st : State} {entry : Entry} {r : Stepped} where
+  empty-after : empties entry ≡ true → accepted (r .answer) ≡ true → r .state .stored ≡ Stored.Empty → Leaves st entry r
+  empty-after e a s = record { emptied = λ x y. s; refused = λ x y. absurd (never a y); other = λ x y. absurd (never e x) }
+
+  -- of an event that is none of the three
+  as-before : empties entry ≡ false → r .state .stored ≡ st .stored → Leaves st entry r
+  as-before e s = record { emptied = λ x y. absurd (never x e); refused = λ x y. s; other = λ x y. s }
+
+sampled-after : {st : State} (at : Measurement) {r : Stepped} → Leaves st (sampleOf at) r
+sampled-after at = record { emptied = λ x y. absurd (never x refl); refused = λ x y. absurd (never x refl); other = λ x y. absurd (y at refl) }
+
+-- case by case; a refusal's number is never 0
+moved : {sheets : List ℕ} {st : State} {entry : Entry} {r : Stepped} → Ruled sheets st entry r → Leaves st entry r
+moved (refuses {number = number} k n) =
+    let m = range 1 11 number n in
+    record { emptied = λ x y. absurd (never y (ne-eqb number 0 (omega arith))); refused = λ x y. refl; other = λ x y. refl }
+moved {st = st} (malformed {kind}) = as-before refl (go (eqb kind 6))
+  where
+    go : (t : Bool) → cond t (closing st) st .stored ≡ st .stored
+    go true = refl
+    go false = refl
+moved (loads e s) = empty-after refl refl refl
+moved (zeroes n) = as-before refl refl
+moved (spans low high) = as-before refl refl
+moved (refers g) = empty-after refl refl refl
+moved Ruled.absolute = empty-after refl refl refl
+moved (samples {at} x) = sampled-after at
+moved (closes {at} n) = sampled-after at
+moved starts = as-before refl refl
+moved stops = as-before refl refl
+moved (totals i) = as-before refl refl
+
 module _ (sheets : List ℕ) (st : State) (w : workable st ≡ true) where
-  abbrev Leaves : Entry → Stepped → Type 0
-  Leaves entry r = (empties entry ≡ true → accepted (r .answer) ≡ false → r .state .stored ≡ st .stored)
-      × (empties entry ≡ true → accepted (r .answer) ≡ true → r .state .stored ≡ Stored.Empty)
-      × (empties entry ≡ false → ((at : Measurement) → entry ≡ sampleOf at → ⊥) → r .state .stored ≡ st .stored)
-
-  -- case by case; a refusal's number is never 0
-  moved : {entry : Entry} {r : Stepped} → Ruled sheets st entry r → Leaves entry r
-  moved (refuses {number = number} k n) =
-      let m = range 1 11 number n in
-      (λ e f. refl, λ e f. absurd (subst T (sym f ∙ ne-eqb number 0 (omega arith)) tt), λ e f. refl)
-  moved (malformed {kind}) =
-      (λ e f. absurd (subst T (sym e) tt), λ e f. absurd (subst T (sym e) tt), λ e f. go (eqb kind 6))
-    where
-      go : (t : Bool) → cond t (closing st) st .stored ≡ st .stored
-      go true = refl
-      go false = refl
-  moved (loads e s) = (λ e f. absurd (subst T f tt), λ e f. refl, λ e f. absurd (subst T e tt))
-  moved (zeroes n) = (λ e f. refl, λ e f. absurd (subst T (sym e) tt), λ e f. refl)
-  moved (spans low high) = (λ e f. refl, λ e f. absurd (subst T (sym e) tt), λ e f. refl)
-  moved (refers g) = (λ e f. absurd (subst T f tt), λ e f. refl, λ e f. absurd (subst T e tt))
-  moved Ruled.absolute = (λ e f. absurd (subst T f tt), λ e f. refl, λ e f. absurd (subst T e tt))
-  moved (samples {at} x) = (λ e f. absurd (subst T (sym e) tt), λ e f. absurd (subst T (sym e) tt), λ e f. absurd (f at refl))
-  moved (closes {at} n) = (λ e f. absurd (subst T (sym e) tt), λ e f. absurd (subst T (sym e) tt), λ e f. absurd (f at refl))
-  moved starts = (λ e f. refl, λ e f. absurd (subst T (sym e) tt), λ e f. refl)
-  moved stops = (λ e f. refl, λ e f. absurd (subst T (sym e) tt), λ e f. refl)
-  moved (totals i) = (λ e f. refl, λ e f. absurd (subst T (sym e) tt), λ e f. refl)
-
-  leaves-it : (entry : Entry) → Leaves entry (stepOf sheets st entry)
+  leaves-it : (entry : Entry) → Leaves st entry (stepOf sheets st entry)
   leaves-it entry = rw (by-rules sheets st entry w) (moved (ruled sheets st entry))
 
   -- a sample leaves what the definition says, whatever its answer
   by-sample : (at : Measurement) → storedAfter sheets st (sampleOf at) ≡ storing st at .stored
   by-sample at = ap (λ (r : Stepped). r .state .stored) (by-rules sheets st (sampleOf at) w)
 
+  under-any : (at : Measurement) → ((s : Sheet) → storedOn s (st .mode) at (st .stored) ≡ st .stored) → storing st at .stored ≡ st .stored
+  under-any at h = go (st .loaded)
+    where
+      go : (l : Loaded) → storedUnder l (st .mode) at (st .stored) ≡ st .stored
+      go Loaded.Nothing = refl
+      go (Loaded.One s) = h s
+
   sample-leaves : (at : Measurement) → SearchesNot st at → storing st at .stored ≡ st .stored
   sample-leaves at (no-sheet e) = ap (λ (l : Loaded). storedUnder l (st .mode) at (st .stored)) e
-  sample-leaves at (SearchesNot.absolute e) = go (st .loaded)
-    where
-      go : (l : Loaded) → storedUnder l (st .mode) at (st .stored) ≡ st .stored
-      go Loaded.Nothing = refl
-      go (Loaded.One s) = left-absolute s at (st .stored) e
-  sample-leaves at (by-6 e) = go (st .loaded)
-    where
-      go : (l : Loaded) → storedUnder l (st .mode) at (st .stored) ≡ st .stored
-      go Loaded.Nothing = refl
-      go (Loaded.One s) = left-by-6 s at (st .stored) (st .mode) e
+  sample-leaves at (SearchesNot.absolute e) = under-any at (λ s. left-absolute s at (st .stored) e)
+  sample-leaves at (by-6 e) = under-any at (λ s. left-by-6 s at (st .stored) (st .mode) e)
   sample-leaves at (stored-there e) = storing-at st at e
 
 -- a sample that searches stores what it finds
@@ -106,9 +118,9 @@ searches-stores st s gas at h =
 store-moves : (sheets : List ℕ) (st : State) → workable st ≡ true → StoreMoves sheets st
 store-moves sheets st w =
     record {
-      emptied = λ entry. leaves-it sheets st w entry .1;
-      refused-leaves = λ entry. leaves-it sheets st w entry .0;
-      other-leaves = λ entry. leaves-it sheets st w entry .2;
+      emptied = λ entry. leaves-it sheets st w entry .emptied;
+      refused-leaves = λ entry. leaves-it sheets st w entry .refused;
+      other-leaves = λ entry. leaves-it sheets st w entry .other;
       replaced = λ s gas at h. by-sample sheets st w at ∙ searches-stores st s gas at h;
       sample-leaves = λ at h. by-sample sheets st w at ∙ sample-leaves sheets st w at h;
     }

@@ -32,7 +32,6 @@ use Rattle.events.specs.Sample.{storedUnder, withStored, storing, sampledOf}
 use Rattle.events.specs.Events.{sampleBy, sampleRead}
 use Rattle.events.proofs.Stored.{stored-under, storing-at}
 use Rattle.engine.specs.Step.{stepOf}
-use Rattle.engine.specs.Transcript.{leaves}
 use Rattle.engine.proofs.Laws.{by-rules}
 use Rattle.engine.proofs.Cases.{closing, Ruled, refuses, malformed, loads, zeroes, spans, refers, samples, closes, starts, stops, totals, ruled}
 use Rattle.ledger.proofs.Demand3.{from-fresh}

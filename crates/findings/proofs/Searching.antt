@@ -9,14 +9,12 @@ use lib.IntN.{natAbs}
 use Rattle.curve.specs.declared.Sheet.{Sheet}
 use Rattle.counting.specs.declared.Integration.{Integration}
 use Rattle.counting.specs.Integration.{closedOf}
-use Rattle.sheets.specs.declared.Lookup.{Lookup}
 use Rattle.sampling.specs.declared.Mode.{Mode}
 use Rattle.sampling.specs.declared.Measurement.{Measurement}
 use Rattle.sampling.specs.declared.Sampled.{Sampled}
 use Rattle.sampling.specs.Span.{spannedRefusal, spannedOn}
 use Rattle.sheets.specs.Sheets.{lookupRefusal, lookupOf}
 use Rattle.store.specs.declared.Stored.{Stored}
-use Rattle.store.specs.Store.{findingIn}
 use Rattle.rules.specs.declared.Loaded.{Loaded}
 use Rattle.rules.specs.declared.State.{State}
 use Rattle.rules.specs.declared.Event.{Event}

@@ -1,7 +1,7 @@
 -- R-7's claims: what each event does to what is stored; over every list of events, that what is stored is what a search gives, and that no answer
 -- shows it; and what a record gets that was altered to hold another finding. Assumes nothing.
 use Prim.Native.Nat.{ℕ, _≤_}
-use mathlib.Core.Bool.{Bool, true, false, _&&_}
+use mathlib.Core.Bool.{Bool, true, false}
 use mathlib.Core.List.{List, map}
 use mathlib.Core.Path.{_≡_}
 use Rattle.curve.specs.declared.Sheet.{Sheet}
@@ -20,7 +20,6 @@ use Rattle.rules.specs.declared.Loaded.{Loaded}
 use Rattle.rules.specs.declared.State.{State}
 use Rattle.rules.specs.declared.Event.{Event}
 use Rattle.rules.specs.declared.Entry.{Entry}
-use Rattle.rules.specs.declared.Answer.{Answer}
 use Rattle.rules.specs.Answer.{accepted}
 use Rattle.rules.specs.Rules.{refused, fresh}
 use Rattle.rules.specs.Limits.{workable}

@@ -1,6 +1,6 @@
 -- `stored_after` meets its contract: each test is made where those before it hold. Assumes nothing.
 use mathlib.Core.Path.{_≡_, sym, _∙_}
-use mathlib.Core.Bool.{true, false}
+use mathlib.Core.Bool.{true}
 use borrow.Author.Needs.{needs}
 use borrow.Author.Tests.{not-true, not-false}
 use Rattle.curve.proofs.Within.{both}

@@ -1,5 +1,6 @@
 -- The starred cases of document 01, "Readings on the bench", as R-1, R-5 and R-7 have them, with R-1's two limits, R-5's flat line and a stored
--- finding that no search gives (R-7), as one fact about the rules: each as what `rules` answers to an entry at a named state, and the state that it leaves. Assumes nothing.
+-- finding that no search gives (R-7), as one fact about the rules: each as what `rules` answers to an entry at a named state, and the state that
+-- it leaves. Assumes nothing.
 use mathlib.Core.List.{List, [], _∷_}
 use mathlib.Core.Path.{_≡_}
 use Prim.Native.Nat.{ℕ}

@@ -6,16 +6,18 @@
  * irga_run answers each event with a record of 24 bytes; irga_reading and irga_area take
  * the numbers out of such a record as doubles; irga_lines gives the same answers as text,
  * and irga_page the accepted samples as a page for the lab book. irga_write makes a session
- * file, so that a lesson can be prepared in advance.
+ * file, so that a lesson can be prepared in advance. irga_pack makes of a wet value the word
+ * that a chart recorder's channel is sent, and irga_unpack takes such a word apart.
  *
  * The library is libhost.a, for x86-64 Linux, which `rt staticlib host` makes. It calls no
  * other library:
  *
  *     cc -std=c99 -Iinclude examples/readings.c target/staticlib/libhost.a -o readings
  *
- * examples/readings.c reads a session, examples/plan.c prepares one.
+ * examples/readings.c reads a session, examples/plan.c prepares one, examples/recorder.c sends
+ * one to a chart recorder.
  *
- * What holds for all six functions:
+ * What holds for all eight functions:
  *
  * - No state is kept between calls and nothing is allocated. Any number of threads may
  *   call at once, as long as nothing that a call is lent is written by anyone else until
@@ -24,8 +26,8 @@
  *   proved); give it 16 KiB.
  * - No pointer may be NULL, not even with a length of 0, and the places that are lent to
  *   one call may not overlap; a place of 0 bytes overlaps none.
- * - Files, records and outputs are bytes and need no alignment; size_t and double objects
- *   have their usual one.
+ * - Files, records and outputs are bytes and need no alignment; size_t, double, uint16_t and
+ *   int16_t objects have their usual one.
  * - Only the places named as written are written; a function reads no byte beyond the
  *   lengths that it is given.
  * - Numbers in files and answers are little-endian, signed ones in two's complement.
@@ -65,6 +67,13 @@ extern "C" {
 /* How many sample lines may stand under a header line of irga_page: 1 to 999. */
 #define IRGA_HEADER_EVERY_MIN 1
 #define IRGA_HEADER_EVERY_MAX 999
+
+/*
+ * What a chart recorder takes: values and ends of a scale from -4,000,000,000 to
+ * 4,000,000,000 pmol/mol, and channel numbers from 0 to 15.
+ */
+#define IRGA_RECORDER_MAX INT64_C(4000000000)
+#define IRGA_RECORDER_CHANNEL_MAX 15
 
 /* Where the fields of a sheet begin. Bytes 20 to 23 are zero. */
 #define IRGA_SHEET_A1 0  /* i32 */
@@ -110,9 +119,16 @@ enum irga_kind {
     IRGA_AREA = 9       /* m: readings counted; x: area, in pmol/mol times 0.1 s */
 };
 
+/* What a channel of a chart recorder is driven by. */
+enum irga_channel {
+    IRGA_VOLTAGE = 0, /* codes -2048 to 2047, 2048 steps from low to high */
+    IRGA_CURRENT = 1  /* codes 0 to 4095, 4096 steps from low to high */
+};
+
 /*
  * Why an event (1 to 11), a file (12) or an output (13) is refused, why nothing is written
- * of sheets and events (11, 14, 15), and why a page is turned away (12, 16, 17).
+ * of sheets and events (11, 14, 15), why a page is turned away (12, 16, 17), and why a chart
+ * recorder gets no word (18).
  */
 enum irga_refusal {
     IRGA_ACCEPTED = 0,
@@ -136,7 +152,10 @@ enum irga_refusal {
     IRGA_NO_ROOM = 15,             /* the buffer is shorter than the file that is to be
                                       written */
     IRGA_HEADER_INTERVAL = 16,     /* sample lines under a header line outside 1 to 999 */
-    IRGA_PAGE_TOO_LONG = 17        /* the buffer is shorter than the page */
+    IRGA_PAGE_TOO_LONG = 17,       /* the buffer is shorter than the page */
+    IRGA_RECORDER_LIMITS = 18      /* of a chart recorder: the value, an end of the scale or the
+                                      channel outside its range, high not above low, or a kind
+                                      that is not an enum irga_channel */
 };
 
 /*
@@ -270,6 +289,48 @@ uint8_t irga_area(const uint8_t *answer, size_t answer_length, double *area);
 uint8_t irga_write(const uint8_t *sheets, size_t sheets_length,
                    const uint8_t *events, size_t events_length,
                    uint8_t *out, size_t out_length, size_t *written);
+
+/*
+ * The word that moves a chart recorder's pen to a value: the code in the low twelve bits, in
+ * two's complement on a voltage channel, the channel number in the top four.
+ *
+ * kind       an enum irga_channel
+ * value      the wet value to be drawn, in pmol/mol
+ * low        the value at 0 V, or at 4 mA
+ * high       the value at full scale, 5 V, 100 mV or 20 mA
+ * channel    the channel's number, 0 to 15
+ * word       gets the word, or 0
+ *
+ * The code of a voltage channel is 2048 (value - low) / (high - low), rounded to the nearest
+ * whole number, a half going away from zero, and held within -2048 and 2047; of a current
+ * channel it is 4096 (value - low) / (high - low), rounded in the same way and held within 0
+ * and 4095. So full scale itself is held one step short of it, and a code that is not held is
+ * within half a step of the exact ratio.
+ *
+ * Returns IRGA_ACCEPTED; or IRGA_RECORDER_LIMITS where value, low or high is beyond
+ * IRGA_RECORDER_MAX in size, high is not above low, channel is above
+ * IRGA_RECORDER_CHANNEL_MAX, or kind is neither IRGA_VOLTAGE nor IRGA_CURRENT. No wet value of
+ * irga_run is too large.
+ *
+ * Touches: *word, which is 0 with 18.
+ */
+uint8_t irga_pack(uint8_t kind, int64_t value, int64_t low, int64_t high, uint32_t channel,
+                  uint16_t *word);
+
+/*
+ * The code and the channel number that a word holds, whoever made it.
+ *
+ * kind       an enum irga_channel: a word does not tell it
+ * word       any word
+ * code       gets the code: -2048 to 2047 of a voltage channel, 0 to 4095 of a current channel
+ * channel    gets the channel's number, 0 to 15
+ *
+ * Returns IRGA_ACCEPTED, or IRGA_RECORDER_LIMITS for a kind that is neither IRGA_VOLTAGE nor
+ * IRGA_CURRENT.
+ *
+ * Touches: *code and *channel if it returns 0, and nothing else.
+ */
+uint8_t irga_unpack(uint8_t kind, uint16_t word, int16_t *code, uint8_t *channel);
 
 #ifdef __cplusplus
 }

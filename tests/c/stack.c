@@ -1,7 +1,7 @@
 /*
- * stack SESSION...: the most bytes of stack that irga_run, irga_lines, irga_page and irga_write
- * took over the sessions, each in a line of its own; irga_write makes each of them again from its
- * records, and how many came out as they were is the last line.
+ * stack SESSION...: the most bytes of stack that irga_run, irga_lines, irga_page, irga_write,
+ * and irga_pack with irga_unpack took over the sessions, each in a line of its own; irga_write
+ * makes each of them again from its records, and how many came out as they were is the last line.
  * Each call runs on a stack of its own that was filled with one byte before; what still has that
  * byte was not touched. The few bytes that entering takes are counted too.
  */
@@ -32,7 +32,16 @@ static void plan(void) {
     made += status == IRGA_ACCEPTED && written == length && memcmp(out, file, length) == 0;
 }
 
-static void (*const calls[])(void) = {run, lines, page, plan};
+/* A word for the session's length, so that it is not the same each time. */
+static void record(void) {
+    uint16_t word;
+    int16_t code;
+    uint8_t channel;
+    irga_pack(IRGA_VOLTAGE, (int64_t)length, 0, IRGA_FILE_MAX, 3, &word);
+    irga_unpack(IRGA_VOLTAGE, word, &code, &channel);
+}
+
+static void (*const calls[])(void) = {run, lines, page, plan, record};
 enum { CALLS = sizeof calls / sizeof calls[0] };
 
 static size_t taken_by(void (*call)(void)) {

@@ -3,7 +3,7 @@
 //!
 //! `rules` is the arithmetic, `engine` the nine events, `file` the session file
 //! and the program, `plan` a session file written in advance, `page` a page for the lab
-//! book. `big`, `exact` and `ledger`
+//! book, `recorder` a chart recorder's words. `big`, `exact` and `ledger`
 //! are the other side of demand 3: equation (11) in exact fractions and the ledger that
 //! walks beside the engine. `random` and `sessions` invent lessons and plans, `hostile`
 //! spoils one thing at a time, and `harness` compares an engine or a writer with this one
@@ -37,6 +37,7 @@ pub mod pace;
 pub mod page;
 pub mod plan;
 pub mod random;
+pub mod recorder;
 pub mod roundings;
 pub mod rules;
 pub mod sessions;

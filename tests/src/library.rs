@@ -1,4 +1,4 @@
-//! The proved library: its six C functions as declared in include/irga.h, and a safe
+//! The proved library: its eight C functions as declared in include/irga.h, and a safe
 //! function over each. Slices and references meet what the header asks: no pointer is
 //! NULL, and places that are written overlap no other.
 
@@ -6,6 +6,7 @@ use std::os::raw::c_double;
 
 use crate::archive::{over_lent, UNWRITTEN};
 use crate::file::{Outcome, Records};
+use crate::recorder::{Drawn, Recorder};
 
 extern "C" {
     fn irga_run(
@@ -52,6 +53,10 @@ extern "C" {
         out_length: usize,
         written: *mut usize,
     ) -> u8;
+
+    fn irga_pack(kind: u8, value: i64, low: i64, high: i64, channel: u32, word: *mut u16) -> u8;
+
+    fn irga_unpack(kind: u8, word: u16, code: *mut i16, channel: *mut u8) -> u8;
 }
 
 /// Runs a lent file and writes the answers from the start of the lent output.
@@ -102,4 +107,19 @@ pub fn write(Records { sheets, events }: &Records, output: &mut [u8]) -> Outcome
         )
     };
     Outcome { status, written }
+}
+
+/// The library's chart recorder.
+pub struct Proved;
+
+impl Recorder for Proved {
+    #[allow(unsafe_code)]
+    fn pack(&self, kind: u8, &Drawn { x, x0, xf, channel }: &Drawn, word: &mut u16) -> u8 {
+        unsafe { irga_pack(kind, x, x0, xf, channel, word) }
+    }
+
+    #[allow(unsafe_code)]
+    fn unpack(&self, kind: u8, word: u16, code: &mut i16, channel: &mut u8) -> u8 {
+        unsafe { irga_unpack(kind, word, code, channel) }
+    }
 }

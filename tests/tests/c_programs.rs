@@ -13,6 +13,7 @@ use irga_tests::harness::{Executable, Program};
 use irga_tests::lesson;
 use irga_tests::page;
 use irga_tests::random::Random;
+use irga_tests::recorder::{self, by_hand, Drawn, Kind};
 use irga_tests::rules::Refusal;
 use irga_tests::sessions::{self, PROFILES};
 
@@ -88,7 +89,7 @@ const OFFSETS: [(&str, usize); 16] = [
     ("IRGA_ANSWER_Y", 16),
 ];
 
-const REFUSALS: [(&str, Refusal); 17] = [
+const REFUSALS: [(&str, Refusal); 18] = [
     ("IRGA_NO_SHEET", Refusal::NoSheet),
     ("IRGA_SHEET_LIMITS", Refusal::SheetOutsideLimits),
     ("IRGA_ZERO_RANGE", Refusal::ZeroOutsideRange),
@@ -106,6 +107,7 @@ const REFUSALS: [(&str, Refusal); 17] = [
     ("IRGA_NO_ROOM", Refusal::NoRoom),
     ("IRGA_HEADER_INTERVAL", Refusal::HeaderInterval),
     ("IRGA_PAGE_TOO_LONG", Refusal::PageTooLong),
+    ("IRGA_RECORDER_LIMITS", Refusal::RecorderLimits),
 ];
 
 /// The header's constants by name, and what this implementation or document 01 has.
@@ -124,6 +126,10 @@ fn constants() -> Vec<(&'static str, usize)> {
         ("IRGA_PAGE_MAX", page::LONGEST),
         ("IRGA_HEADER_EVERY_MIN", *page::EVERY.start() as usize),
         ("IRGA_HEADER_EVERY_MAX", *page::EVERY.end() as usize),
+        ("IRGA_RECORDER_MAX", *recorder::VALUES.end() as usize),
+        ("IRGA_RECORDER_CHANNEL_MAX", *recorder::CHANNELS.end() as usize),
+        ("IRGA_VOLTAGE", 0),
+        ("IRGA_CURRENT", 1),
         ("IRGA_ACCEPTED", 0),
     ];
     constants.extend(OFFSETS);
@@ -141,7 +147,7 @@ fn constants_are_those_of_the_format() {
     let kinds = KINDS.iter().zip(1..).map(|(name, kind)| (format!("IRGA_{name}"), kind));
     let named = constants().into_iter().map(|(name, value)| (name.to_string(), value));
     let tests = named.chain(kinds).enumerate().map(|(i, (name, value))| {
-        format!("typedef char test_{i}[(int)({name}) == {value} ? 1 : -1];\n")
+        format!("typedef char test_{i}[(long long)({name}) == {value}LL ? 1 : -1];\n")
     });
     let source: String = tests.collect();
     let path = scratch("constants.c");
@@ -149,32 +155,37 @@ fn constants_are_those_of_the_format() {
     compile(C, &["-fsyntax-only", path.to_str().expect("a path in UTF-8")]);
 }
 
-/// A program that calls all six functions and gives their sum of statuses: three times 12 for a
-/// file of one byte, 11 + 11 for an answer of one, 11 for an event of one.
+/// A program that calls all eight functions and gives their sum of statuses: three times 12 for a
+/// file of one byte, 11 + 11 for an answer of one, 11 for an event of one, 18 + 18 for a kind of
+/// channel that there is not.
 const CALLS: &str = r#"
 #include "irga.h"
 int main(void) {
     uint8_t byte = 0, other = 0, out = 7;
     size_t written = 1, lines = 1, page = 1, planned = 1;
     double a = 1, b = 2, c = 3;
+    uint16_t word = 5;
+    int16_t code = 6;
     int sum = irga_run(&byte, 1, &out, 1, &written);
     sum += irga_lines(&byte, 1, &out, 1, &lines);
     sum += irga_page(&byte, 1, IRGA_HEADER_EVERY_MAX, &out, 1, &page);
     sum += irga_reading(&byte, 1, &a, &b, &c);
     sum += irga_area(&byte, 1, &a);
     sum += irga_write(&byte, 0, &other, 1, &out, 1, &planned);
-    if (written != 0 || lines != 0 || page != 0 || planned != 0)
+    sum += irga_pack(IRGA_CURRENT + 1, 0, -IRGA_RECORDER_MAX, IRGA_RECORDER_MAX, 0, &word);
+    sum += irga_unpack(IRGA_CURRENT + 1, 0, &code, &out);
+    if (written != 0 || lines != 0 || page != 0 || planned != 0 || word != 0 || code != 6)
         return 0;
     return out == 7 && a == 1 && b == 2 && c == 3 ? sum : 0;
 }
 "#;
 
 #[test]
-fn all_six_functions_link_from_c_and_from_cpp() {
+fn all_eight_functions_link_from_c_and_from_cpp() {
     for (compiler, name) in [(C, "calls.c"), (CPP, "calls.cpp")] {
         let status = Command::new(link(compiler, name, CALLS)).status();
         let status = status.expect("the program starts").code();
-        assert_eq!(status, Some(3 * 12 + 11 + 11 + 11), "{name}");
+        assert_eq!(status, Some(3 * 12 + 11 + 11 + 11 + 18 + 18), "{name}");
     }
 }
 
@@ -217,6 +228,54 @@ fn pages_from_c_and_from_cpp() {
             assert_eq!(output.status.code(), Some(status), "{name} {every} {fewer}");
             assert!(output.stdout == owed, "{name} {every} {fewer}");
         }
+    }
+}
+
+/// Reads lines of kind, value, low, high and channel, and prints status and word of each, then code
+/// and channel of the word, or what the places held before.
+const WORDS: &str = r#"
+#include <inttypes.h>
+#include <stdio.h>
+#include "irga.h"
+int main(void) {
+    unsigned kind;
+    int64_t value, low, high;
+    uint32_t channel;
+    while (scanf("%u %" SCNd64 " %" SCNd64 " %" SCNd64 " %" SCNu32, &kind, &value, &low, &high,
+                 &channel) == 5) {
+        uint16_t word = 0xA5A5;
+        int16_t code = -1234;
+        uint8_t number = 99;
+        uint8_t packed = irga_pack((uint8_t)kind, value, low, high, channel, &word);
+        uint8_t unpacked = irga_unpack((uint8_t)kind, word, &code, &number);
+        printf("%u %u %u %d %u\n", packed, word, unpacked, code, number);
+    }
+    return 0;
+}
+"#;
+
+/// Values worked out by hand, from C and from C++: each argument arrives whole.
+#[test]
+fn words_from_c_and_from_cpp() {
+    let path = scratch("values.txt");
+    let owed = by_hand::owed();
+    let line = |owed: &by_hand::Owed| {
+        let Drawn { x, x0, xf, channel } = owed.drawn;
+        format!("{} {x} {x0} {xf} {channel}\n", owed.kind)
+    };
+    fs::write(&path, owed.iter().map(line).collect::<String>()).expect("a written file");
+    let lines = owed.iter().map(|owed| {
+        let (status, (code, channel)) = match recorder::unpack(owed.kind, owed.word) {
+            Ok(held) => (0, held),
+            Err(refusal) => (refusal.number(), (-1234, 99)),
+        };
+        format!("{} {} {status} {code} {channel}\n", owed.status, owed.word)
+    });
+    let expected: String = lines.collect();
+    for (compiler, name) in [(C, "words.c"), (CPP, "words.cpp")] {
+        let output = run(&link(compiler, name, WORDS), &[], Some(&path));
+        assert_eq!(output.status.code(), Some(0), "{name}");
+        assert_eq!(String::from_utf8_lossy(&output.stdout), expected, "{name}");
     }
 }
 
@@ -372,24 +431,122 @@ fn a_call_takes_less_stack_than_the_header_says() {
     let output = run(&program, &words, None);
     let most = String::from_utf8(output.stdout).expect("a text");
     let most: Vec<usize> = most.lines().map(|line| line.parse().expect("bytes")).collect();
-    println!("stack of run, lines, page and write, and files written: {most:?}");
-    let &[run, lines, page, write, made] = &most[..] else {
-        panic!("four functions were called");
+    println!("stack of run, lines, page, write and a word, and files written: {most:?}");
+    let &[run, lines, page, write, word, made] = &most[..] else {
+        panic!("five calls were made");
     };
     // A search of 28 halvings, each with a frame, cannot take less than 2,000 bytes. A writer
     // searches nothing; the lesson and other sessions were written, to the last event.
     assert!([run, lines, page].iter().all(|taken| (2_000..10_000).contains(taken)), "{most:?}");
-    assert!((1..10_000).contains(&write) && made > 10, "{most:?}");
+    assert!([write, word].iter().all(|taken| (1..10_000).contains(taken)), "{most:?}");
+    assert!(made > 10, "{most:?}");
 }
 
 /// A device that takes nothing: the lines are lost, and the status says so.
 #[test]
 fn lines_that_cannot_be_written() {
     let lesson = repository().join("examples/lesson.session");
-    for (program, name) in [(readings("full"), lesson), (plan("full"), scratch("full.session"))] {
+    let pen = PEN.map(PathBuf::from).into_iter().chain([lesson.clone()]).collect();
+    for (program, words) in [
+        (readings("full"), vec![lesson]),
+        (plan("full"), vec![scratch("full.session")]),
+        (pens("full"), pen),
+    ] {
         let full = File::options().write(true).open("/dev/full").expect("a full device");
-        let output = Command::new(program).arg(name).stdout(full).output();
+        let output = Command::new(program).args(words).stdout(full).output();
         assert_said(&output.expect("the program starts"), 2, "cannot write the ");
+    }
+}
+
+fn pens(test: &str) -> PathBuf {
+    example("recorder", test)
+}
+
+/// A voltage channel with the number 3, from 340 to 380 µmol/mol.
+const PEN: [&str; 4] = ["voltage", "340000000", "380000000", "3"];
+
+/// The words of a session's accepted samples by this implementation.
+fn drawn(session: &[u8], kind: Kind, x0: i64, xf: i64, channel: u32) -> String {
+    let lines = lines(session);
+    let samples = lines.lines().filter_map(|line| {
+        let numbers: Vec<i64> =
+            line.split(' ').map(|word| word.parse().expect("a number")).collect();
+        (numbers[1..3] == [6, 0]).then(|| (numbers[0], numbers[4]))
+    });
+    let words = samples.map(|(ordinal, x)| {
+        let drawn = Drawn { x, x0, xf, channel };
+        let word = recorder::pack(kind as u8, &drawn).expect("a word");
+        let code = drawn.code(kind);
+        format!("{ordinal}: word {word:04X}, code {code} on channel {channel}\n")
+    });
+    words.collect()
+}
+
+/// The lesson on both kinds of channel, and sessions of every profile, some with readings beyond the
+/// scale's ends and below zero.
+#[test]
+fn lessons_that_are_drawn() {
+    let (program, lesson) = (pens("lesson"), repository().join("examples/lesson.session"));
+    let session = fs::read(&lesson).expect("the lesson is there");
+    let words: Vec<&Path> = PEN.iter().map(Path::new).chain([lesson.as_path()]).collect();
+    let expected = drawn(&session, Kind::Voltage, 340_000_000, 380_000_000, 3);
+    assert_eq!(expected.lines().count(), 300);
+    for output in [run(&program, &words, None), run(&program, &words[..4], Some(&lesson))] {
+        assert_eq!((output.status.code(), output.stderr.is_empty()), (Some(0), true));
+        assert_eq!(String::from_utf8_lossy(&output.stdout), expected);
+    }
+    let (mut random, path) = (Random::new(0x626A), scratch("drawn.session"));
+    for profile in PROFILES.iter().cycle().take(2 * PROFILES.len()) {
+        let session = sessions::session(&mut random, profile).to_bytes();
+        fs::write(&path, &session).expect("a written file");
+        let words = ["current", "-100000000", "1000000000", "15"].map(Path::new);
+        let output = run(&program, &words, Some(&path));
+        let expected = drawn(&session, Kind::Current, -100_000_000, 1_000_000_000, 15);
+        assert_eq!(String::from_utf8_lossy(&output.stdout), expected);
+    }
+}
+
+#[test]
+fn pens_that_draw_nothing() {
+    let program = pens("trouble");
+    let lesson = repository().join("examples/lesson.session");
+    let with = |words: &[&str]| {
+        run(&program, &words.iter().map(Path::new).collect::<Vec<_>>(), Some(&lesson))
+    };
+    for scale in [
+        ["voltage", "380000000", "340000000", "3"],
+        ["current", "5", "5", "3"],
+        ["voltage", "0", "4000000001", "3"],
+        ["voltage", "-4000000001", "0", "3"],
+        ["current", "0", "1", "16"],
+    ] {
+        assert_said(&with(&scale), 1, "the scale or the channel: refused 18");
+    }
+    for words in [
+        &["voltage", "0", "1"][..],
+        &["volts", "0", "1", "3"],
+        &["voltage", "0.5", "1", "3"],
+        &["voltage", "", "1", "3"],
+        &["voltage", "0", "9223372036854775808", "3"],
+        &["voltage", "0", "1", "-1"],
+        &["voltage", "0", "1", "4294967296"],
+        &["voltage", "0", "1", "3", "one", "two"],
+    ] {
+        assert_said(&with(words), 2, "usage: recorder");
+    }
+    let damaged = scratch("undrawn.session");
+    fs::write(&damaged, [0; 17]).expect("a written file");
+    let words = |name: &Path| -> Vec<PathBuf> {
+        PEN.iter().map(PathBuf::from).chain([name.to_path_buf()]).collect()
+    };
+    for (name, status, says) in [
+        (damaged.as_path(), 1, "refused 12"),
+        (&scratch("nothing.session"), 2, "cannot open"),
+        (repository(), 2, "cannot read"),
+    ] {
+        let words = words(name);
+        let words: Vec<&Path> = words.iter().map(PathBuf::as_path).collect();
+        assert_said(&run(&program, &words, None), status, says);
     }
 }
 

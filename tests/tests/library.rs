@@ -1,5 +1,5 @@
-//! The proved library's six functions beside this implementation: every status, every
-//! length and every byte of a lent output, every double. The archive's folder is named by
+//! The proved library's eight functions beside this implementation: every status, every
+//! length and every byte of a lent output, every double, every word. The archive's folder is named by
 //! IRGA_LIBRARY when the tests are built.
 
 use std::path::Path;
@@ -7,12 +7,14 @@ use std::thread;
 
 use irga_tests::engine::Answer;
 use irga_tests::file::{self, Outcome, Session, LINE_ROOM, RECORD_BYTES};
+use irga_tests::harness::recorders::every_word;
 use irga_tests::harness::{check_page, Campaign, Count};
 use irga_tests::hostile::{self, OwedPlan};
 use irga_tests::lesson;
 use irga_tests::library;
 use irga_tests::page::{self, by_hand};
 use irga_tests::random::Random;
+use irga_tests::recorder;
 use irga_tests::sessions::{self, PROFILES};
 
 type Run = fn(&[u8], &mut [u8]) -> Outcome;
@@ -397,4 +399,26 @@ fn pages_of_hostile_files() {
             }
         }
     }
+}
+
+/// Fifty invented values for each session: a million words.
+#[test]
+fn a_recorder_gets_the_same_words() {
+    let campaign = campaign(0x6277);
+    let met = campaign.against_recorder(&library::Proved).unwrap_or_else(|why| panic!("{why}"));
+    println!("{met}");
+    let rare = met.rarer_than(campaign.sessions / 100);
+    assert!(rare.is_empty(), "{rare:?}");
+}
+
+#[test]
+fn words_worked_out_by_hand() {
+    for owed in recorder::by_hand::owed() {
+        assert_eq!(owed.check(&library::Proved), Ok(()));
+    }
+}
+
+#[test]
+fn every_word_of_a_recorder_both_ways() {
+    assert_eq!(every_word(&library::Proved), Ok(()));
 }

@@ -5,8 +5,10 @@ use irga_tests::bench;
 use irga_tests::engine::{step, Answer, Entry, Event, SheetRecord, State, READINGS_LIMIT};
 use irga_tests::figures::{grouped, in_one_line};
 use irga_tests::file::{self, EventRecord, Session};
+use irga_tests::harness::recorders::VALUES_EACH;
 use irga_tests::harness::SESSIONS;
 use irga_tests::hostile;
+use irga_tests::recorder::{self, Drawn, Kind};
 use irga_tests::rules::{self, Air, Refusal};
 use irga_tests::{ledger, lesson, pace, page};
 
@@ -159,6 +161,59 @@ fn the_lesson_of_the_desk() {
     // Readings of 1,000, 1,388.16 and 1,000 µmol/mol.
     assert_says("2 × (1,388.16 + 1,000) − 2 × (1,000 + 1,000) is 776.32, times 0.1 s.");
     assert_eq!(area.split(' ').nth(4), Some("776320000"));
+}
+
+/// What examples/recorder.c prints of the lesson's first samples: `c_programs` holds all to this
+/// implementation.
+#[test]
+fn the_words_of_the_lesson() {
+    let (x0, xf, channel, lines) = (340_000_000, 380_000_000, 3, 3);
+    let command = format!(
+        "target/recorder voltage {x0} {xf} {channel} examples/lesson.session | head -n {lines}"
+    );
+    let (_, after) = README.split_once(&command).expect("the command");
+    assert_says(&format!(
+        "draws the lesson on channel {channel}, which goes from {} µmol/mol at 0 V to {} at full",
+        x0 / 1_000_000,
+        xf / 1_000_000
+    ));
+    let samples = page::samples(&lesson::session());
+    let words = samples.iter().take(lines).map(|sample| {
+        let drawn = Drawn { x: sample.wet, x0, xf, channel };
+        let word = recorder::pack(Kind::Voltage as u8, &drawn).expect("a word");
+        let (ordinal, code) = (sample.ordinal, drawn.code(Kind::Voltage));
+        format!("{ordinal}: word {word:04X}, code {code} on channel {channel}\n")
+    });
+    let words: String = words.collect();
+    let (_, shown) = after.split_once("prints the words:\n\n```\n").expect("the words");
+    assert!(shown.starts_with(&format!("{words}```\n")), "README.md has other words than\n{words}");
+}
+
+/// Steps, codes and limits of a chart recorder, and the manual's example.
+#[test]
+fn the_recorder_s_numbers() {
+    for (kind, name) in [(Kind::Voltage, "voltage"), (Kind::Current, "current")] {
+        let (steps, codes, byte) = (kind.steps(), kind.codes(), kind as u8);
+        let lowest = codes.start().to_string().replace('-', "−");
+        let highest = codes.end();
+        let near = format!("near({steps} (X − X0) / (XF − X0))");
+        assert_says(&format!("| {name}, kind {byte} | {near} | {lowest} and {highest} |"));
+    }
+    let manual = Drawn { x: -40_000_000, x0: -100_000_000, xf: 100_000_000, channel: 0 };
+    let (upper, lower) = manual.exact(Kind::Current);
+    assert_eq!((10 * upper) % lower, 0);
+    let tenths = 10 * upper / lower;
+    assert_says(&format!(
+        "the ratio is {}.{} and the code {}.",
+        number(tenths / 10),
+        tenths % 10,
+        manual.code(Kind::Current)
+    ));
+    let (limit, channels) = (number(recorder::VALUES.end()), recorder::CHANNELS.end());
+    assert_says(&format!("X, X0 and XF are −{limit} to {limit}, and XF is above X0:"));
+    assert_says(&format!("scale is beyond {limit} on either side, the upper end is not above"));
+    assert_says(&format!("channel's number is above {channels}, or the kind is neither 0 nor 1 |"));
+    assert_says(&format!("number, 0 to {channels}, in the top four."));
 }
 
 /// The cells, but for the first, of the first row of a table that begins like this.
@@ -477,11 +532,13 @@ fn refusals_and_their_order() {
         (Refusal::NoRoom, "the lent buffer is shorter than the file to be written,"),
         (Refusal::HeaderInterval, "the number of sample lines under a header line is outside"),
         (Refusal::PageTooLong, "the lent buffer is shorter than the page,"),
+        (Refusal::RecorderLimits, "of a chart recorder: the value or an end of its scale"),
     ] {
         assert_says(&format!("| {} | {words}", refusal.number()));
     }
     assert_says("the first in this order is given: 11, 1, 2, 10, 6, 3, 4, 5, 9, 7, 8. 12 and 13");
-    assert_says("14, 11 and 15, in this order, what is to be written; 12, 16 and 17, in this order, a page:");
+    assert_says("14, 11 and 15, in this order, what is to be written; 12, 16 and 17, in this order, a page;");
+    assert_says("18 a word for a chart recorder:");
 }
 
 #[test]
@@ -515,6 +572,8 @@ fn sessions_and_versions_of_the_gate() {
          as pages,"
     ));
     assert_says(&format!("and hand it {sessions} plans and {sessions} with faults to write,"));
+    let values = number(VALUES_EACH * SESSIONS);
+    assert_says(&format!("and {values} values for a chart recorder."));
     assert!(GATE.contains(&format!("\nexport IRGA_SESSIONS={SESSIONS}\n")));
     assert_says(&format!("`cargo` (Rust {} or later)", env!("CARGO_PKG_RUST_VERSION")));
 }

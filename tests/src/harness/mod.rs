@@ -3,10 +3,11 @@
 //! Every byte of the lent output is compared, and every printed line. Since the
 //! answers are then the same, the exact ledger is walked over ours: demand 3's
 //! distances are checked on each session too. `plans` does the same for a writer of session
-//! files, and `pages` for a writer of pages.
+//! files, `pages` for a writer of pages, and `recorders` for a chart recorder's words.
 
 mod pages;
 mod plans;
+pub mod recorders;
 mod tally;
 
 pub use pages::check_page;

@@ -1,0 +1,4 @@
+pub mod Recorder
+pub mod Kinds
+pub mod Promises
+pub mod Examples

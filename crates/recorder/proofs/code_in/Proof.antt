@@ -20,33 +20,21 @@ negative n h = rw (toZ-pos w16 {n = n} (omega arith)) (is-eq (is-minus (is-nat n
 fits : (n : ℕ) → SFits w16 (negsuc (4095 - n))
 fits n = record { sfits = omega arith }
 
-enum-told : tie.Need-enum-told
-enum-told c = search needs
-
-cast-result : tie.Need-cast-result
-cast-result c = search needs
-
-cast-result-2 : tie.Need-cast-result-2
-cast-result-2 c = search needs
-
 sub-result : tie.Need-sub-result
 sub-result c = let s = c .before .before .before in rw (negative (s .args .bits) (s .pre)) (fits (s .args .bits))
 
-enum-told-2 : tie.Need-enum-told-2
-enum-told-2 c = search needs
-
-cast-result-3 : tie.Need-cast-result-3
-cast-result-3 c = search needs
-
 returns : tie.Need-returns
 unfolding codeIn
-returns c = rw (c .before .enum-told .given .1, lt-ltb _ _ (c .if1 .taken)) (toZ-pos w16 (omega arith))
+returns c =
+    let n = c .before .before .before .args .bits in
+    rw (c .before .enum-told .given .1, lt-ltb n 2048 (omega (arith, c .if1 .taken))) (toZ-pos w16 (omega (arith, c .if1 .taken)))
 
 returns-2 : tie.Need-returns-2
 unfolding codeIn
 returns-2 c =
     let s = c .before .before .before in
-    rw (c .before .enum-told .given .1, le-ltb _ _ (c .if1 .left), negative (s .args .bits) (s .pre)) (toZ-ofZ (fits (s .args .bits)))
+    rw (c .before .enum-told .given .1, le-ltb (s .args .bits) 2048 (omega (arith, c .if1 .left)), negative (s .args .bits) (s .pre))
+    (toZ-ofZ (fits (s .args .bits)))
 
 returns-3 : tie.Need-returns-3
 unfolding codeIn
@@ -56,12 +44,5 @@ pub code-in-spec : {M : Type 1} → statement M
 code-in-spec =
     tie.close
     (tie.spec
-    enum-told
-    cast-result
-    cast-result-2
-    sub-result
-    enum-told-2
-    cast-result-3
-    returns
-    returns-2
-    returns-3)
+    (λ c. search needs) (λ c. search needs) (λ c. search needs) sub-result (λ c. search needs) (λ c. search needs)
+    returns returns-2 returns-3)

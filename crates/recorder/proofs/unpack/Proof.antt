@@ -10,13 +10,10 @@ use Rattle.recorder.proofs.unpack.Tie as tie
 code-in-requires : tie.Need-code-in-requires
 code-in-requires c κs = mask-lt (c .args .word) 12
 
-cast-t6 : tie.Need-cast-t6
-cast-t6 c = search needs
-
 returns : tie.Need-returns
 returns c =
     let f : SFits w16 (c .code-in .result) = search needs in
     rw (toZ-ofZ f, c .code-in .ensures, and-mask (c .before .args .word) 12)
 
 pub unpack-spec : {M : Type 1} → statement M
-unpack-spec = tie.close (tie.spec code-in-requires cast-t6 returns)
+unpack-spec = tie.close (tie.spec code-in-requires (λ c. search needs) returns)

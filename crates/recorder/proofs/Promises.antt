@@ -15,7 +15,7 @@ use Rattle.rounding.proofs.Nearest.{near-half, near-mono, near-exact}
 use Rattle.recorder.specs.declared.ChannelKind.{ChannelKind}
 use Rattle.recorder.specs.declared.ChannelKind.the-variants.{Voltage, Current}
 use Rattle.recorder.specs.declared.Packed.the-variants.{Word, Refused}
-use Rattle.recorder.specs.Recorder.{Ends, accepts, stepsOf, lowestOf, highestOf, ratioOf, heldOf, codeOf, bitsOf, wordOf, packOf, packedRefusal, packedWord, codeIn, unpackOf}
+use Rattle.recorder.specs.Recorder.{Ends, accepts, stepsOf, lowestOf, highestOf, ratioOf, heldOf, codeOf, bitsOf, wordOf, packOf, codeIn, unpackOf}
 use Rattle.recorder.specs.Promises.{TurnedAway, Unheld, HeldLow, HeldHigh, EveryCode, GivenBack}
 use Rattle.recorder.specs.Examples.{MakersExamples, Words}
 use Rattle.recorder.proofs.Codes.{accepted-ends, ends-accepted, width-positive, held-within, held-low, unheld, by-hold, ordered, code-within, size-within}

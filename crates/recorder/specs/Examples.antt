@@ -2,7 +2,6 @@
 use mathlib.Core.Path.{_≡_}
 use Prim.Native.Nat.{ℕ, _*_}
 use lib.IntN.{ℤ, pos, negℤ}
-use Rattle.recorder.specs.declared.ChannelKind.{ChannelKind}
 use Rattle.recorder.specs.declared.ChannelKind.the-variants.{Voltage, Current}
 use Rattle.recorder.specs.declared.Packed.the-variants.{Word, Refused}
 use Rattle.recorder.specs.Recorder.{codeOf, packOf}

@@ -1,6 +1,5 @@
 -- `pack` meets its contract: what is accepted has a code that its twelve bits hold. Assumes nothing.
 use mathlib.Core.Path.{_≡_, ap}
-use mathlib.Core.Bool.{true}
 use borrow.Author.Needs.{needs}
 use mir.Facts.{toZ-ofZ}
 use mir.Syntax.{w64}

@@ -1,13 +1,14 @@
 /*
- * Draws a lesson on a chart recorder: recorder KIND LOW HIGH CHANNEL [SESSION], from standard
- * input without a name. KIND is voltage or current, LOW and HIGH are the ends of the scale in
- * pmol/mol (10^6 of them are 1 umol/mol), CHANNEL is a number from 0 to 15. One line for each
- * accepted sample, with its event's ordinal in the session: the word that the recorder is to be
- * sent, in hexadecimal, and the code that it holds. A box would send the words instead.
+ * Prints what draws a lesson on a chart recorder: recorder KIND LOW HIGH CHANNEL [SESSION], from
+ * standard input without a name. KIND is voltage or current, LOW and HIGH are the ends of the
+ * scale in pmol/mol (10^6 of them are 1 umol/mol), CHANNEL is a number from 0 to 15. One line for
+ * each accepted sample, with its event's ordinal in the session: the word for its wet value, in
+ * hexadecimal, and the code that it holds. A box would send the word. What was refused has no
+ * line: examples/readings.c tells it.
  *
- * Exit status: 0 the file was accepted, 1 it was refused or the recorder's numbers were, 2 it
- * could not be read or the lines could not be written. A pipe that nobody reads any more ends
- * it by SIGPIPE, unless that signal is ignored.
+ * Exit status: 0 the file was accepted, 1 it was refused, or the scale or the channel was, 2 the
+ * arguments are not as above, the file could not be read or the lines could not be written. A
+ * pipe that nobody reads any more ends it by SIGPIPE, unless that signal is ignored.
  */
 #include <errno.h>
 #include <stdio.h>
@@ -30,7 +31,8 @@ struct pen {
 };
 
 static int usage(void) {
-    fprintf(stderr, "usage: recorder voltage|current LOW HIGH CHANNEL [SESSION]\n");
+    fprintf(stderr, "usage: recorder voltage|current LOW HIGH CHANNEL [SESSION]\n"
+                    "LOW and HIGH are whole numbers of pmol/mol, CHANNEL is 0 to 15\n");
     return TROUBLE;
 }
 
@@ -40,8 +42,8 @@ static int trouble(const char *what, const char *name) {
     return TROUBLE;
 }
 
-static int refused(const char *name, uint8_t status) {
-    fprintf(stderr, "recorder: %s: refused %u\n", name, (unsigned)status);
+static int refused(const char *name, uint8_t status, const char *meaning) {
+    fprintf(stderr, "recorder: %s: refused %u, %s\n", name, (unsigned)status, meaning);
     return REFUSED;
 }
 
@@ -81,20 +83,25 @@ static uint8_t print_sample(const struct pen *pen, unsigned long ordinal, double
     return status;
 }
 
+/* Of a scale and a channel that are within their limits every wet value has a word. */
+static uint8_t try_pen(const struct pen *pen) {
+    uint16_t word;
+    return irga_pack(pen->kind, pen->low, pen->low, pen->high, pen->channel, &word);
+}
+
 static int print_lesson(const struct pen *pen, const char *name, size_t length) {
     size_t written, at;
     double wet, dry, signal;
-    uint16_t word;
     uint8_t status = irga_run(file, length, answers, sizeof answers, &written);
     if (status != IRGA_ACCEPTED)
-        return refused(name, status);
-    /* The lower end of the scale is taken if anything is: a lesson without a sample says so, too. */
-    status = irga_pack(pen->kind, pen->low, pen->low, pen->high, pen->channel, &word);
-    for (at = 0; status == IRGA_ACCEPTED && at < written; at += IRGA_RECORD_BYTES)
-        if (irga_reading(answers + at, IRGA_RECORD_BYTES, &wet, &dry, &signal) == IRGA_ACCEPTED)
-            status = print_sample(pen, (unsigned long)(at / IRGA_RECORD_BYTES) + 1, wet);
-    if (status != IRGA_ACCEPTED)
-        return refused("the scale or the channel", status);
+        return refused(name, status, "header or length not as the format says");
+    for (at = 0; at < written; at += IRGA_RECORD_BYTES) {
+        if (irga_reading(answers + at, IRGA_RECORD_BYTES, &wet, &dry, &signal) != IRGA_ACCEPTED)
+            continue;
+        status = print_sample(pen, (unsigned long)(at / IRGA_RECORD_BYTES) + 1, wet);
+        if (status != IRGA_ACCEPTED)
+            return refused(name, status, "a reading that cannot be drawn");
+    }
     /* A full disk may show only when the last line leaves. */
     errno = 0;
     if (fflush(stdout) != 0 || ferror(stdout))
@@ -107,8 +114,12 @@ int main(int count, char **words) {
     struct pen pen;
     FILE *in = stdin;
     size_t length;
+    uint8_t status;
     if (count < 5 || count > 6 || !read_pen(words + 1, &pen))
         return usage();
+    if ((status = try_pen(&pen)) != IRGA_ACCEPTED)
+        return refused("the scale or the channel", status,
+                       "LOW is to be below HIGH, both within 4000000000 of 0, and CHANNEL 0 to 15");
     if (count == 6 && (in = fopen(name, "rb")) == NULL)
         return trouble("open", name);
     errno = 0;

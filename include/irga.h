@@ -14,8 +14,8 @@
  *
  *     cc -std=c99 -Iinclude examples/readings.c target/staticlib/libhost.a -o readings
  *
- * examples/readings.c reads a session, examples/plan.c prepares one, examples/recorder.c sends
- * one to a chart recorder.
+ * examples/readings.c reads a session, examples/plan.c prepares one, examples/recorder.c prints
+ * the words that draw one on a chart recorder.
  *
  * What holds for all eight functions:
  *
@@ -292,27 +292,30 @@ uint8_t irga_write(const uint8_t *sheets, size_t sheets_length,
 
 /*
  * The word that moves a chart recorder's pen to a value: the code in the low twelve bits, in
- * two's complement on a voltage channel, the channel number in the top four.
+ * two's complement on a voltage channel, the channel number in the top four. It is a number: in
+ * which order its bytes are sent is the host's matter.
  *
  * kind       an enum irga_channel
- * value      the wet value to be drawn, in pmol/mol
- * low        the value at 0 V, or at 4 mA
- * high       the value at full scale, 5 V, 100 mV or 20 mA
+ * value      the value to be drawn, in pmol/mol: a wet one, or any other in the range
+ * low        the value at 0 V, or at 4 mA, in pmol/mol
+ * high       the value at full scale, 5 V, 100 mV or 20 mA, in pmol/mol
  * channel    the channel's number, 0 to 15
  * word       gets the word, or 0
  *
  * The code of a voltage channel is 2048 (value - low) / (high - low), rounded to the nearest
  * whole number, a half going away from zero, and held within -2048 and 2047; of a current
  * channel it is 4096 (value - low) / (high - low), rounded in the same way and held within 0
- * and 4095. So full scale itself is held one step short of it, and a code that is not held is
- * within half a step of the exact ratio.
+ * and 4095. A code that is not held is within half a step of the exact ratio. A value off the
+ * scale is accepted and its code held: above high, and at high itself, one step short of full
+ * scale. Below low a voltage channel goes on below 0 V, and a current channel stays at 4 mA.
  *
  * Returns IRGA_ACCEPTED; or IRGA_RECORDER_LIMITS where value, low or high is beyond
  * IRGA_RECORDER_MAX in size, high is not above low, channel is above
  * IRGA_RECORDER_CHANNEL_MAX, or kind is neither IRGA_VOLTAGE nor IRGA_CURRENT. No wet value of
  * irga_run is too large.
  *
- * Touches: *word, which is 0 with 18.
+ * Touches: *word, which is 0 with 18. That is also the word of code 0 on channel 0: look at the
+ * status, and send nothing with 18.
  */
 uint8_t irga_pack(uint8_t kind, int64_t value, int64_t low, int64_t high, uint32_t channel,
                   uint16_t *word);

@@ -167,13 +167,13 @@ fn the_lesson_of_the_desk() {
 /// implementation.
 #[test]
 fn the_words_of_the_lesson() {
-    let (x0, xf, channel, lines) = (340_000_000, 380_000_000, 3, 3);
+    let (x0, xf, channel, lines) = (330_000_000, 370_000_000, 3, 3);
     let command = format!(
         "target/recorder voltage {x0} {xf} {channel} examples/lesson.session | head -n {lines}"
     );
     let (_, after) = README.split_once(&command).expect("the command");
     assert_says(&format!(
-        "draws the lesson on channel {channel}, which goes from {} µmol/mol at 0 V to {} at full",
+        "draw the lesson's wet values on channel {channel}, from {} µmol/mol at 0 V to {} at full scale;",
         x0 / 1_000_000,
         xf / 1_000_000
     ));
@@ -185,7 +185,7 @@ fn the_words_of_the_lesson() {
         format!("{ordinal}: word {word:04X}, code {code} on channel {channel}\n")
     });
     let words: String = words.collect();
-    let (_, shown) = after.split_once("prints the words:\n\n```\n").expect("the words");
+    let (_, shown) = after.split_once("in pmol/mol:\n\n```\n").expect("the words");
     assert!(shown.starts_with(&format!("{words}```\n")), "README.md has other words than\n{words}");
 }
 
@@ -204,13 +204,16 @@ fn the_recorder_s_numbers() {
     assert_eq!((10 * upper) % lower, 0);
     let tenths = 10 * upper / lower;
     assert_says(&format!(
-        "the ratio is {}.{} and the code {}.",
+        "4096 × 0.3 is {}.{}, and the code {}.",
         number(tenths / 10),
         tenths % 10,
         manual.code(Kind::Current)
     ));
     let (limit, channels) = (number(recorder::VALUES.end()), recorder::CHANNELS.end());
-    assert_says(&format!("X, X0 and XF are −{limit} to {limit}, and XF is above X0:"));
+    assert_says(&format!("X, X0 and XF go from −{limit} to {limit}, and XF is above X0."));
+    assert_says(&format!(
+        "Any others, a channel above {channels} and a kind that is neither 0 nor 1"
+    ));
     assert_says(&format!("scale is beyond {limit} on either side, the upper end is not above"));
     assert_says(&format!("channel's number is above {channels}, or the kind is neither 0 nor 1 |"));
     assert_says(&format!("number, 0 to {channels}, in the top four."));
@@ -573,7 +576,7 @@ fn sessions_and_versions_of_the_gate() {
     ));
     assert_says(&format!("and hand it {sessions} plans and {sessions} with faults to write,"));
     let values = number(VALUES_EACH * SESSIONS);
-    assert_says(&format!("and {values} values for a chart recorder."));
+    assert_says(&format!("and have it pack {values} values for a chart recorder."));
     assert!(GATE.contains(&format!("\nexport IRGA_SESSIONS={SESSIONS}\n")));
     assert_says(&format!("`cargo` (Rust {} or later)", env!("CARGO_PKG_RUST_VERSION")));
 }

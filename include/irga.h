@@ -120,7 +120,7 @@ enum irga_kind {
 };
 
 /* What a channel of a chart recorder is driven by. */
-enum irga_channel {
+enum irga_channel_kind {
     IRGA_VOLTAGE = 0, /* codes -2048 to 2047, 2048 steps from low to high */
     IRGA_CURRENT = 1  /* codes 0 to 4095, 4096 steps from low to high */
 };
@@ -155,7 +155,7 @@ enum irga_refusal {
     IRGA_PAGE_TOO_LONG = 17,       /* the buffer is shorter than the page */
     IRGA_RECORDER_LIMITS = 18      /* of a chart recorder: the value, an end of the scale or the
                                       channel outside its range, high not above low, or a kind
-                                      that is not an enum irga_channel */
+                                      that is no enum irga_channel_kind */
 };
 
 /*
@@ -295,7 +295,7 @@ uint8_t irga_write(const uint8_t *sheets, size_t sheets_length,
  * two's complement on a voltage channel, the channel number in the top four. It is a number: in
  * which order its bytes are sent is the host's matter.
  *
- * kind       an enum irga_channel
+ * kind       an enum irga_channel_kind
  * value      the value to be drawn, in pmol/mol: a wet one, or any other in the range
  * low        the value at 0 V, or at 4 mA, in pmol/mol
  * high       the value at full scale, 5 V, 100 mV or 20 mA, in pmol/mol
@@ -323,7 +323,7 @@ uint8_t irga_pack(uint8_t kind, int64_t value, int64_t low, int64_t high, uint32
 /*
  * The code and the channel number that a word holds, whoever made it.
  *
- * kind       an enum irga_channel: a word does not tell it
+ * kind       an enum irga_channel_kind: a word does not tell it
  * word       any word
  * code       gets the code: -2048 to 2047 of a voltage channel, 0 to 4095 of a current channel
  * channel    gets the channel's number, 0 to 15

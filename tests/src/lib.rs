@@ -6,8 +6,8 @@
 //! book, `recorder` a chart recorder's words. `big`, `exact` and `ledger`
 //! are the other side of demand 3: equation (11) in exact fractions and the ledger that
 //! walks beside the engine. `random` and `sessions` invent lessons and plans, `hostile`
-//! spoils one thing at a time, and `harness` compares an engine or a writer with this one
-//! over many of them. `roundings` takes a sample's roundings one by one, `store` keeps what the
+//! spoils one thing at a time, and `harness` compares an engine, a writer or a recorder with
+//! this one over many of them. `roundings` takes a sample's roundings one by one, `store` keeps what the
 //! last search found, and `altered` has the text of the program of that name. `bench` holds the
 //! readings and the maker's table that the papers give, and `worst` looks for the
 //! readings with the largest errors. `drift` sets the old program's area beside ours,

@@ -482,28 +482,45 @@ fn drawn(session: &[u8], kind: Kind, x0: i64, xf: i64, channel: u32) -> String {
     words.collect()
 }
 
-/// The lesson on both kinds of channel, and sessions of every profile, some with readings beyond the
-/// scale's ends and below zero.
+/// The lesson by name and from standard input, on both kinds of channel. Some of its samples lie
+/// below the lower end of 340 µmol/mol: a voltage is negative there, and a current held.
 #[test]
-fn lessons_that_are_drawn() {
+fn the_lesson_s_words() {
     let (program, lesson) = (pens("lesson"), repository().join("examples/lesson.session"));
     let session = fs::read(&lesson).expect("the lesson is there");
-    let words: Vec<&Path> = PEN.iter().map(Path::new).chain([lesson.as_path()]).collect();
-    let expected = drawn(&session, Kind::Voltage, 340_000_000, 380_000_000, 3);
-    assert_eq!(expected.lines().count(), 300);
-    for output in [run(&program, &words, None), run(&program, &words[..4], Some(&lesson))] {
-        assert_eq!((output.status.code(), output.stderr.is_empty()), (Some(0), true));
-        assert_eq!(String::from_utf8_lossy(&output.stdout), expected);
+    for (kind, name) in [(Kind::Voltage, "voltage"), (Kind::Current, "current")] {
+        let words = [&[name], &PEN[1..]].concat();
+        let words: Vec<&Path> = words.iter().map(Path::new).chain([lesson.as_path()]).collect();
+        let expected = drawn(&session, kind, 340_000_000, 380_000_000, 3);
+        assert_eq!(expected.lines().count(), 300);
+        let below = if kind == Kind::Voltage { "code -" } else { "code 0 " };
+        assert!(expected.contains(below));
+        for output in [run(&program, &words, None), run(&program, &words[..4], Some(&lesson))] {
+            assert_eq!((output.status.code(), output.stderr.is_empty()), (Some(0), true));
+            assert_eq!(String::from_utf8_lossy(&output.stdout), expected);
+        }
     }
-    let (mut random, path) = (Random::new(0x626A), scratch("drawn.session"));
-    for profile in PROFILES.iter().cycle().take(2 * PROFILES.len()) {
+}
+
+/// Sessions of every profile: readings at both ends of the chart and between them.
+#[test]
+fn words_of_sessions() {
+    let (program, path) = (pens("sessions"), scratch("drawn.session"));
+    let mut random = Random::new(0x626A);
+    let mut printed = String::new();
+    for profile in PROFILES.iter().cycle().take(4 * PROFILES.len()) {
         let session = sessions::session(&mut random, profile).to_bytes();
         fs::write(&path, &session).expect("a written file");
         let words = ["current", "-100000000", "1000000000", "15"].map(Path::new);
         let output = run(&program, &words, Some(&path));
+        assert_eq!((output.status.code(), output.stderr.is_empty()), (Some(0), true));
         let expected = drawn(&session, Kind::Current, -100_000_000, 1_000_000_000, 15);
         assert_eq!(String::from_utf8_lossy(&output.stdout), expected);
+        printed += &expected;
     }
+    let with = |word: &str| printed.matches(word).count();
+    let (all, low, high) = (printed.lines().count(), with("word F000"), with("word FFFF"));
+    assert!(low > 0 && high > 0 && low + high < all / 2, "{low} and {high} of {all}");
 }
 
 #[test]

@@ -37,38 +37,70 @@ fn what_invented_values_reach() {
 }
 
 /// A code that is not held is within half a step of the exact ratio, and at a half further from
-/// zero; a held one is at the end that the exact ratio is beyond; and none falls as X rises.
+/// zero; a held one is at the end that the exact ratio is beyond by half a step or more; and none
+/// falls as X rises. Half of the scales have a whole number of pmol/mol for a half step.
 #[test]
 fn what_document_02_says_of_every_code() {
     let mut random = Random::new(0x6281);
+    let mut met = [0; 5];
     for _ in 0..200_000 {
         let kind = random.pick(&[Kind::Voltage, Kind::Current]);
-        let x0 = random.between(-4_000_000_000, 3_999_999_999);
-        let width = random.pick(&[9, 9_000, 8_000_000_000]);
-        let xf = random.between(x0 + 1, (x0 + width).min(4_000_000_000));
-        let x = random.between(-4_000_000_000, 4_000_000_000);
-        let x = if random.percent(50) { x } else { random.between(x0 - 9, xf + 9) };
-        let drawn = Drawn { x: x.clamp(-4_000_000_000, 4_000_000_000), x0, xf, channel: 7 };
-        assert_code(kind, &drawn);
+        let x0 = random.between(-4_000_000_000, 3_990_000_000);
+        let drawn = if random.percent(50) {
+            let (half, odd) = (random.between(1, 300), 2 * random.between(-3_000, 5_000) + 1);
+            let xf = x0 + 2 * half * kind.steps();
+            let x = (x0 + odd * half).clamp(-4_000_000_000, 4_000_000_000);
+            Drawn { x, x0, xf, channel: 7 }
+        } else {
+            let width = random.pick(&[9, 9_000, 8_000_000_000]);
+            let xf = random.between(x0 + 1, (x0 + width).min(4_000_000_000));
+            Drawn { x: random.between(-4_000_000_000, 4_000_000_000), x0, xf, channel: 7 }
+        };
+        met[assert_code(kind, &drawn) as usize] += 1;
         let higher = Drawn { x: random.between(drawn.x, 4_000_000_000), ..drawn };
         assert!(drawn.code(kind) <= higher.code(kind), "{drawn:?} {higher:?}");
     }
+    println!("held low, held high, free, halves above zero and below it: {met:?}");
+    assert!(met.iter().all(|count| *count > 5_000), "{met:?}");
 }
 
-fn assert_code(kind: Kind, drawn: &Drawn) {
+/// Where a code lies.
+#[derive(Clone, Copy)]
+enum Place {
+    HeldLow,
+    HeldHigh,
+    Free,
+    HalfAbove,
+    HalfBelow,
+}
+
+/// Without a word of how a ratio is rounded: by the exact one alone.
+fn assert_code(kind: Kind, drawn: &Drawn) -> Place {
     let (upper, lower) = drawn.exact(kind);
     let (code, codes) = (drawn.code(kind), kind.codes());
-    // Twice the distance from the exact ratio, times its denominator.
-    let off = 2 * (i128::from(code) * lower - upper);
-    assert!(codes.contains(&code), "{drawn:?}");
-    if off.abs() > lower {
-        let end = if off > 0 { *codes.start() } else { *codes.end() };
-        assert_eq!(code, end, "{drawn:?}");
-    } else if off.abs() == lower {
-        assert!((off > 0) == (upper > 0), "{drawn:?}");
-    }
+    let (lowest, highest) = (*codes.start(), *codes.end());
     let packed = pack(kind as u8, drawn).expect("a word");
     assert_eq!(unpack(kind as u8, packed), Ok((code as i16, 7)), "{drawn:?}");
+    // Twice the distance from the exact ratio, times its denominator.
+    let off = |code: i64| 2 * (i128::from(code) * lower - upper);
+    if off(lowest) >= lower {
+        assert_eq!(code, lowest, "{drawn:?}");
+        return Place::HeldLow;
+    }
+    if -off(highest) >= lower {
+        assert_eq!(code, highest, "{drawn:?}");
+        return Place::HeldHigh;
+    }
+    assert!(off(code).abs() <= lower, "{drawn:?}");
+    if off(code).abs() < lower {
+        return Place::Free;
+    }
+    assert_eq!(off(code) > 0, upper > 0, "{drawn:?}");
+    if upper > 0 {
+        Place::HalfAbove
+    } else {
+        Place::HalfBelow
+    }
 }
 
 /// A recorder that does as this one, but for what is made of a value or of a word.
@@ -120,7 +152,7 @@ const WRONG_PACKS: [(&str, fn(u8, &Drawn, &mut u16) -> u8); 12] = [
             Kind::Current => drawn.rounded(kind).clamp(0, 4_096) as i64,
         })
     }),
-    ("a voltage not held above", |kind, drawn, word| {
+    ("a voltage held at 2048", |kind, drawn, word| {
         recoded(kind, drawn, word, |kind, drawn| match kind {
             Kind::Voltage => drawn.rounded(kind).clamp(-2_048, 2_048) as i64,
             Kind::Current => drawn.code(kind),

@@ -113,8 +113,12 @@ packed k w h =
     packed-accepted k z (pos 0) (pos (stepsOf k)) (w / 4096) (own-ends k z (size-within k z (s .low) (s .high))) (omega arith)
     ∙ ap Word (rw (own-ratio k z, unheld (lowestOf k) (highestOf k) z (s .low) (s .high), s .bits) (omega arith))
 
+reached : (k : ChannelKind) (code : ℤ) (channel : ℕ) → lowestOf k ≤ℤ code → code ≤ℤ highestOf k → channel < 16
+    → (wordOf code channel < 65536) × (unpackOf k (wordOf code channel) ≡ record { code = code; channel = channel })
+reached k code channel l h c = let b = code-of-bits k code l h .0 in (omega arith, held-in-word k code channel l h)
+
 pub given-back : GivenBack
-given-back = record { unpacked = unpacked; packed = packed }
+given-back = record { unpacked = unpacked; reached = reached; packed = packed }
 
 -- ---- where a code lies
 
@@ -180,10 +184,10 @@ makers-examples = record {
   volts-2-5 = refl;
   volts-5 = refl;
   volts-minus-5 = refl;
-  half-a-volt-step = refl;
-  less-than-half = refl;
-  half-a-ma-step = refl;
-  less-than-half-ma = refl;
+  over-half-volts = refl;
+  under-half-volts = refl;
+  over-half-ma = refl;
+  under-half-ma = refl;
 }
 
 pub words : Words

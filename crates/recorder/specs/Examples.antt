@@ -21,13 +21,13 @@ pub record MakersExamples : Type 0 where
   pub volts-2-5 : codeOf Voltage (umol 50) (umol 0) (umol 100) ≡ pos 1024
   pub volts-5 : codeOf Voltage (umol 100) (umol 0) (umol 100) ≡ pos 2047
   pub volts-minus-5 : codeOf Voltage (minus 100) (umol 0) (umol 100) ≡ negℤ (pos 2048)
-  -- "if XF = 1000 and X0 = 0": about 0.5 on a voltage channel, 0.25 on a current channel; half of such a step is rounded up
-  pub half-a-volt-step : codeOf Voltage (pos 244141) (umol 0) (umol 1000) ≡ pos 1
-  pub less-than-half : codeOf Voltage (pos 244140) (umol 0) (umol 1000) ≡ pos 0
-  pub half-a-ma-step : codeOf Current (pos 122071) (umol 0) (umol 1000) ≡ pos 1
-  pub less-than-half-ma : codeOf Current (pos 122070) (umol 0) (umol 1000) ≡ pos 0
+  -- "if XF = 1000 and X0 = 0": steps of about 0.5 on a voltage channel, 0.25 on a current channel. Just over half of one is 1, just under it 0
+  pub over-half-volts : codeOf Voltage (pos 244141) (umol 0) (umol 1000) ≡ pos 1
+  pub under-half-volts : codeOf Voltage (pos 244140) (umol 0) (umol 1000) ≡ pos 0
+  pub over-half-ma : codeOf Current (pos 122071) (umol 0) (umol 1000) ≡ pos 1
+  pub under-half-ma : codeOf Current (pos 122070) (umol 0) (umol 1000) ≡ pos 0
 
--- channel 3 on a voltage scale of 0 to 4,000 µmol/mol, −1 and a half step on one of a pmol/mol a step, and the ends of a current channel
+-- channel 3 on a voltage scale of 0 to 4,000 µmol/mol; −1 on one of 1 pmol/mol a step, halves on one of 2; and the ends of a current channel
 pub record Words : Type 0 where
   pub start : packOf Voltage (umol 0) (umol 0) (umol 4000) 3 ≡ Word 0x3000
   pub middle : packOf Voltage (umol 2000) (umol 0) (umol 4000) 3 ≡ Word 0x3400

@@ -40,6 +40,9 @@ pub record GivenBack : Type 0 where
   -- a packed word holds the code and the channel number that it was packed from
   pub unpacked : (k : ChannelKind) (x x0 xf : ℤ) (channel w : ℕ) → packOf k x x0 xf channel ≡ Word w
       → unpackOf k w ≡ record { code = codeOf k x x0 xf; channel = channel }
+  -- every code of a kind and every channel number is held by its word
+  pub reached : (k : ChannelKind) (code : ℤ) (channel : ℕ) → lowestOf k ≤ℤ code → code ≤ℤ highestOf k → channel < 16
+      → (wordOf code channel < 65536) × (unpackOf k (wordOf code channel) ≡ record { code = code; channel = channel })
   -- and every word of sixteen bits is packed from what it holds, on a scale whose steps are 1 pmol/mol
   pub packed : (k : ChannelKind) (w : ℕ) → w < 65536
       → packOf k (unpackOf k w .code) (pos 0) (pos (stepsOf k)) (unpackOf k w .channel) ≡ Word w

@@ -172,15 +172,32 @@ fn grounds(drawn: &Drawn) -> Vec<&'static str> {
 }
 
 /// What becomes of a value that is taken.
-const FATES: [&str; 5] =
-    ["held low", "held high", "not held", "a half above zero", "a half below zero"];
+const FATES: [&str; 7] = [
+    "held low",
+    "held high",
+    "not held",
+    "a half above zero",
+    "a half below zero",
+    "a half held low",
+    "a half held high",
+];
 
 fn fates(kind: Kind, drawn: &Drawn) -> Vec<&'static str> {
     let (rounded, code) = (drawn.rounded(kind), i128::from(drawn.code(kind)));
     let (upper, lower) = drawn.exact(kind);
-    let half = rounded == code && (2 * upper) % (2 * lower) != 0 && (2 * upper) % lower == 0;
-    let holds =
-        [rounded < code, rounded > code, rounded == code, half && upper > 0, half && upper < 0];
+    let half = upper % lower != 0 && (2 * upper) % lower == 0;
+    // Beyond an end by the half alone.
+    let (low, high) = (rounded == code - 1, rounded == code + 1);
+    let free = rounded == code;
+    let holds = [
+        rounded < code,
+        rounded > code,
+        free,
+        half && free && upper > 0,
+        half && free && upper < 0,
+        half && low,
+        half && high,
+    ];
     FATES.into_iter().zip(holds).filter(|(_, holds)| *holds).map(|(name, _)| name).collect()
 }
 

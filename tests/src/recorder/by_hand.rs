@@ -36,7 +36,7 @@ type Row = (u8, i64, i64, i64, u32, u16);
 /// steps. "Zero volts corresponds to 0 µmol/mol", "full scale corresponds to 100": 0 V, 2.5 V, and
 /// 5 V, which the highest code is a step short of, and −5 V. "If XF = 1000 and X0 = 0, the
 /// resolution will be about 0.5 µmol/mol on either voltage channel, and 0.25 µmol/mol on the current
-/// channel": 1000/2048 is 0.48828, and half of it 0.244140625; 1000/4096 is half of that.
+/// channel": 1000/2048 is 0.48828125, and half of it 0.244140625, which is 1000/4096, too.
 const MAKERS: [Row; 10] = [
     (CURRENT, -40 * UMOL, -100 * UMOL, 100 * UMOL, 0, 1_229),
     (VOLTAGE, 0, 0, 100 * UMOL, 0, 0),
@@ -50,9 +50,9 @@ const MAKERS: [Row; 10] = [
     (CURRENT, 122_071, 0, 1_000 * UMOL, 0, 1),
 ];
 
-/// On scales whose steps are 1 µmol/mol, or 1 pmol/mol for a current: halves and 1 pmol/mol less,
+/// On scales whose steps are 1 µmol/mol, or 1 or 2 pmol/mol for a current: halves and 1 pmol/mol less,
 /// codes at both ends of each kind and beyond them; channel numbers in the top bits.
-const CODES: [Row; 19] = [
+const CODES: [Row; 24] = [
     (VOLTAGE, -3 * UMOL, 0, 2_048 * UMOL, 15, 0xFFFD),
     (VOLTAGE, 499_999, 0, 2_048 * UMOL, 1, 0x1000),
     (VOLTAGE, 500_000, 0, 2_048 * UMOL, 1, 0x1001),
@@ -66,6 +66,11 @@ const CODES: [Row; 19] = [
     (VOLTAGE, -2_047_500_000, 0, 2_048 * UMOL, 2, 0x2800),
     (VOLTAGE, -2_048_500_000, 0, 2_048 * UMOL, 2, 0x2800),
     (VOLTAGE, -LIMIT, 0, 2_048 * UMOL, 2, 0x2800),
+    (CURRENT, 1, 0, 8_192, 8, 0x8001),
+    (CURRENT, -1, 0, 8_192, 8, 0x8000),
+    (CURRENT, 8_188, 0, 8_192, 8, 0x8FFE),
+    (CURRENT, 8_189, 0, 8_192, 8, 0x8FFF),
+    (CURRENT, 8_191, 0, 8_192, 8, 0x8FFF),
     (CURRENT, -1, 0, 4_096, 8, 0x8000),
     (CURRENT, -LIMIT, 0, 4_096, 8, 0x8000),
     (CURRENT, 4_094, 0, 4_096, 8, 0x8FFE),

@@ -306,8 +306,8 @@ uint8_t irga_write(const uint8_t *sheets, size_t sheets_length,
  * whole number, a half going away from zero, and held within -2048 and 2047; of a current
  * channel it is 4096 (value - low) / (high - low), rounded in the same way and held within 0
  * and 4095. A code that is not held is within half a step of the exact ratio. A value off the
- * scale is accepted and its code held: above high, and at high itself, one step short of full
- * scale. Below low a voltage channel goes on below 0 V, and a current channel stays at 4 mA.
+ * scale is accepted: from high on the code is held one step short of full scale; below low a
+ * voltage channel goes on below 0 V, and a current channel stays at 4 mA.
  *
  * Returns IRGA_ACCEPTED; or IRGA_RECORDER_LIMITS where value, low or high is beyond
  * IRGA_RECORDER_MAX in size, high is not above low, channel is above

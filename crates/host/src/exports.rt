@@ -7,18 +7,16 @@ ghost use Rattle.packing.specs.Write.{FillsPacked};
 ghost use Rattle.page.specs.Page.{FillsPage};
 ghost use Rattle.doubles.specs.Doubles.{hostRefusal, hostValues, hostSampleIn, hostAreaIn};
 ghost use Rattle.recorder.specs.Recorder.{packedRefusal, packedWord};
-ghost use Rattle.recorder.specs.Kinds.{packFor, unpackFor, unpackedRefusal, codeLeft, channelLeft};
+ghost use Rattle.pens.specs.Pens.{packFor, unpackFor, unpackedRefusal, codeLeft, channelLeft};
 use answers::run;
 use doubles::HostAnswer;
 use doubles::answers::area_in;
 use doubles::answers::sample_in;
 use packing::write_records;
 use page::page;
+use pens::pack_into;
+use pens::unpack_into;
 use printing::lines;
-use recorder::HostUnpacked;
-use recorder::Packed;
-use recorder::kinds::pack_for;
-use recorder::kinds::unpack_for;
 
 // Answers a whole session file into `out`: 0, or refusal 12 or 13, which leaves `out` as it was. `written` becomes the count of
 // bytes that it wrote, 0 with a refusal.
@@ -123,17 +121,7 @@ pub extern "C" fn irga_pack(
     ensures { λ r. ⌜ r ≡ packedRefusal (packFor kind value low high channel) ⌝ }
     ensures { λ _. ⌜ now (word .exit) ≡ packedWord (packFor kind value low high channel) ⌝ }
 {
-    let packed = pack_for(kind, value, low, high, channel);
-    match packed {
-        Packed::Word(w) => {
-            *word = w;
-            0
-        }
-        Packed::Refused => {
-            *word = 0;
-            18
-        }
-    }
+    pack_into(kind, value, low, high, channel, word)
 }
 
 // Code and channel number of any word: 0, or 18 for another kind, which leaves both places as they were.
@@ -143,15 +131,5 @@ pub extern "C" fn irga_unpack(kind: u8, word: u16, code: &mut i16, channel: &mut
     ensures { λ _. ⌜ now (code .exit) ≡ codeLeft (unpackFor kind word) (now (code .entry)) ⌝ }
     ensures { λ _. ⌜ now (channel .exit) ≡ channelLeft (unpackFor kind word) (now (channel .entry)) ⌝ }
 {
-    let unpacked = unpack_for(kind, word);
-    match unpacked {
-        HostUnpacked::Held(u) => {
-            // A signed place takes a whole local: the borrow checker covers no part of one there.
-            let held = u.code;
-            *code = held;
-            *channel = u.channel;
-            0
-        }
-        HostUnpacked::Refused => 18,
-    }
+    unpack_into(kind, word, code, channel)
 }

@@ -1,4 +1,3 @@
 pub mod Recorder
-pub mod Kinds
 pub mod Promises
 pub mod Examples

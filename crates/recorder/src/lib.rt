@@ -8,8 +8,6 @@ use rounding::near_scaled;
 use rounding::signed::difference;
 use rounding::signed::magnitude;
 
-pub mod kinds;
-
 // What a channel drives its pen with.
 pub enum ChannelKind {
     Voltage,
@@ -26,12 +24,6 @@ pub enum Packed {
 pub struct Unpacked {
     pub code: i16,
     pub channel: u8,
-}
-
-// The same for a host, or refusal 18 for a kind that there is not.
-pub enum HostUnpacked {
-    Held(Unpacked),
-    Refused,
 }
 
 // The word of the value x on a scale from x0 to xf.

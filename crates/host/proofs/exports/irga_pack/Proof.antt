@@ -1,23 +1,14 @@
--- `host::exports::irga_pack` meets its contract: the word, or 0 with 18. Assumes nothing.
-use mathlib.Core.Path.{_≡_, refl}
+-- `host::exports::irga_pack` meets its contract: status and word are those of the recorder. Assumes nothing.
 use borrow.Author.Needs.{needs}
 use mir.Facts.{toZ-ofZ}
-use Rattle.recorder.specs.Kinds.{packFor}
 use Rattle.host.proofs.exports.irga_pack.Statement.{statement}
 use Rattle.host.proofs.exports.irga_pack.Tie as tie
 
--- what was packed, in the parameters' terms
-packed-is : (c : tie.After-pack-for) → c .pack-for .result ≡ packFor (c .before .args .kind) (c .before .args .value) (c .before .args .low) (c .before .args .high) (c .before .args .channel)
-packed-is c =
-    let s = c .before in
-    let f = s .fits .value in let g = s .fits .low in let h = s .fits .high in
-    simp toZ-ofZ at (c .pack-for .ensures)
-
 returns : tie.Need-returns
-returns c = rw (← packed-is (c .before .before .before), c .before .packed .given .1) (refl, refl)
-
-returns-2 : tie.Need-returns-2
-returns-2 c = rw (← packed-is (c .before .before), c .enum-told .given .1) (refl, refl)
+returns c =
+    let s = c .before .before in
+    let f = s .fits .value in let g = s .fits .low in let h = s .fits .high in
+    simp toZ-ofZ at (c .pack-into .ensures)
 
 pub irga-pack-spec : {M : Type 1} → statement M
-irga-pack-spec = tie.close (tie.spec (λ c κs. search needs) (λ c. search needs) (λ c. search needs) returns returns-2)
+irga-pack-spec = tie.close (tie.spec (λ c κs. search needs) returns)

@@ -1,20 +1,10 @@
--- `host::exports::irga_unpack` meets its contract: what the word holds, or both places as they were. Assumes nothing.
-use mathlib.Core.Path.{refl}
+-- `host::exports::irga_unpack` meets its contract: status and places are those of the recorder. Assumes nothing.
 use borrow.Author.Needs.{needs}
-use mir.Facts.{toZ-ofZ}
-use mir.Syntax.{w16}
-use mir.Val.{SFits}
 use Rattle.host.proofs.exports.irga_unpack.Statement.{statement}
 use Rattle.host.proofs.exports.irga_unpack.Tie as tie
 
 returns : tie.Need-returns
-returns c =
-    let u = c .before .before .unpacked in
-    let f : SFits w16 (u .given .0 .0 .code) = search needs in
-    rw (toZ-ofZ f, ← c .before .before .before .before .unpack-for .ensures, u .given .1) (refl, (refl, refl))
-
-returns-2 : tie.Need-returns-2
-returns-2 c = rw (← c .before .before .unpack-for .ensures, c .enum-told .given .1) (refl, (refl, refl))
+returns c = c .unpack-into .ensures
 
 pub irga-unpack-spec : {M : Type 1} → statement M
-irga-unpack-spec = tie.close (tie.spec (λ c κs. search needs) (λ c. search needs) (λ c. search needs) returns returns-2)
+irga-unpack-spec = tie.close (tie.spec (λ c κs. search needs) returns)

@@ -1,10 +1,10 @@
--- `kinds::pack_for` meets its contract, kind by kind. Assumes nothing.
+-- `pack_for` meets its contract, kind by kind. Assumes nothing.
 use borrow.Author.Needs.{needs}
 use borrow.Author.Tests.{ne-eqb}
 use mir.Facts.{toZ-ofZ}
-use Rattle.recorder.specs.Kinds.{packFor}
-use Rattle.recorder.proofs.kinds.pack_for.Statement.{statement}
-use Rattle.recorder.proofs.kinds.pack_for.Tie as tie
+use Rattle.pens.specs.Pens.{packFor}
+use Rattle.pens.proofs.pack_for.Statement.{statement}
+use Rattle.pens.proofs.pack_for.Tie as tie
 
 returns : tie.Need-returns
 unfolding packFor

@@ -1,9 +1,9 @@
--- `kinds::unpack_for` meets its contract, kind by kind. Assumes nothing.
+-- `unpack_for` meets its contract, kind by kind. Assumes nothing.
 use borrow.Author.Needs.{needs}
 use borrow.Author.Tests.{ne-eqb}
-use Rattle.recorder.specs.Kinds.{unpackFor}
-use Rattle.recorder.proofs.kinds.unpack_for.Statement.{statement}
-use Rattle.recorder.proofs.kinds.unpack_for.Tie as tie
+use Rattle.pens.specs.Pens.{unpackFor}
+use Rattle.pens.proofs.unpack_for.Statement.{statement}
+use Rattle.pens.proofs.unpack_for.Tie as tie
 
 returns : tie.Need-returns
 unfolding unpackFor

@@ -1,13 +1,13 @@
--- The recorder for a host, which names the kind of a channel by a byte: 0 voltage, 1 current; any other is turned away with 18. Assumes
--- nothing.
+-- A chart recorder (R-8) for a host, which names the kind of a channel by a byte: 0 voltage, 1 current; any other is turned away with 18.
+-- Assumes nothing.
 use Prim.Native.Nat.{ℕ}
 use mathlib.Core.Bool.{cond}
 use lib.Dec.{eqb}
 use lib.IntN.{ℤ}
 use Rattle.recorder.specs.declared.ChannelKind.the-variants.{Voltage, Current}
 use Rattle.recorder.specs.declared.Packed.{Packed}
-use Rattle.recorder.specs.declared.HostUnpacked.{HostUnpacked}
+use Rattle.pens.specs.declared.HostUnpacked.{HostUnpacked}
 use Rattle.recorder.specs.Recorder.{packOf, unpackOf}
 
 unfoldable pub packFor : ℕ → ℤ → ℤ → ℤ → ℕ → Packed
 packFor kind x x0 xf channel =

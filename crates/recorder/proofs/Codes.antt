@@ -4,11 +4,12 @@ use mathlib.Core.Bool.{Bool, true, false}
 use Prim.Native.Nat.{ℕ, _≤_, _<_}
 use native.Mathlib.Omega.{arith}
 use lib.Dec.{ltb}
-use lib.IntN.{ℤ, pos, negsuc, natAbs, _-ℤ_}
+use lib.IntN.{ℤ, natAbs, _-ℤ_}
 use lib.Signed.{ltZ, _≤ℤ_, _<ℤ_, ≤ℤ-refl}
 use borrow.Author.Tests.{leb-true, ltb-true, le-leb, lt-ltb}
-use Rattle.rounding.proofs.Difference.{is-nat, is-minus, is-parts, is-le, abs-le, of-abs-le, of-le, of-lt}
-use Rattle.rounding.proofs.Tests.{lt-true, lt-false, true-lt, false-lt}
+use Rattle.rounding.proofs.Difference.{is-minus, is-parts, is-le, of-abs-le, of-le, of-lt}
+use Rattle.rounding.proofs.Integers.{≤ℤ-trans}
+use Rattle.rounding.proofs.Tests.{lt-true, lt-false, true-lt, false-lt, size-between}
 use Rattle.curve.proofs.Within.{both}
 use Rattle.recorder.specs.declared.ChannelKind.{ChannelKind}
 use Rattle.recorder.specs.declared.ChannelKind.the-variants.{Voltage, Current}
@@ -80,9 +81,5 @@ code-within k x x0 xf = held-within (lowestOf k) (highestOf k) (ratioOf (stepsOf
 
 -- twelve bits hold it
 pub size-within : (k : ChannelKind) (z : ℤ) → lowestOf k ≤ℤ z → z ≤ℤ highestOf k → natAbs z ≤ 4095
-size-within Voltage z l h =
-    let Z = is-parts z in
-    abs-le 4095 Z (omega (arith, of-le Z (is-nat 2047) h)) (omega (arith, of-le (is-parts (negsuc 2047)) Z l))
-size-within Current z l h =
-    let Z = is-parts z in
-    abs-le 4095 Z (omega (arith, of-le Z (is-nat 4095) h)) (omega (arith, of-le (is-nat 0) Z l))
+size-within Voltage z l h = size-between {l = lowestOf Voltage} (omega arith) l (≤ℤ-trans h (record { le = tt }))
+size-within Current z l h = size-between {l = lowestOf Current} (omega arith) l (≤ℤ-trans h (record { le = tt }))

@@ -5,10 +5,10 @@ use mathlib.Core.Logic.{_⊎_, inl, inr}
 use Prim.Native.Nat.{ℕ, _+_, _*_, _-_, _/_, _%_, _≤_, _<_}
 use native.Mathlib.Omega.{arith}
 use lib.Dec.{ltb}
-use lib.IntN.{ℤ, pos, negsuc, natAbs, _-ℤ_, _*ℤ_}
-use lib.Signed.{_≤ℤ_, _<ℤ_, ≤ℤ-refl, clashℤ}
+use lib.IntN.{ℤ, pos, negsuc, natAbs, _-ℤ_, _*ℤ_, +ℤ-idr}
+use lib.Signed.{_≤ℤ_, _<ℤ_, ≤ℤ-refl, clashℤ, yes-nonNeg, pos-natAbs}
 use borrow.Author.Tests.{ltb-true, ltb-false, lt-ltb, le-ltb}
-use Rattle.rounding.proofs.Difference.{is-nat, is-minus, is-parts, is-le, is-eq, of-le, of-lt}
+use Rattle.rounding.proofs.Difference.{is-nat, is-minus, is-parts, is-le, of-le, of-lt}
 use Rattle.rounding.proofs.Integers.{abs-mul, ≤ℤ-trans, ≤ℤ-<ℤ-trans, scale-mono}
 use Rattle.rounding.specs.Near.{nearest}
 use Rattle.rounding.proofs.Nearest.{near-half, near-mono, near-exact}
@@ -94,13 +94,10 @@ unpacked k x x0 xf channel w e =
     ap (unpackOf k) (packed-word (accepts x x0 xf channel) (wordOf (codeOf k x x0 xf) channel) w e) ∙ held-in-word k (codeOf k x x0 xf) channel (b .0) (b .1)
 
 -- on a scale whose steps are 1 a code is its own ratio
-minus-0 : (z : ℤ) → z -ℤ pos 0 ≡ z
-minus-0 z = is-eq (is-minus (is-parts z) (is-nat 0)) (is-parts z) (omega arith)
-
 own-ratio : (k : ChannelKind) (z : ℤ) → ratioOf (stepsOf k) z (pos 0) (pos (stepsOf k)) ≡ z
 unfolding ratioOf
-own-ratio Voltage z = rw (minus-0 z) (near-exact z 2048 (omega arith))
-own-ratio Current z = rw (minus-0 z) (near-exact z 4096 (omega arith))
+own-ratio Voltage z = rw (+ℤ-idr z) (near-exact z 2048 (omega arith))
+own-ratio Current z = rw (+ℤ-idr z) (near-exact z 4096 (omega arith))
 
 own-ends : (k : ChannelKind) (z : ℤ) → natAbs z ≤ 4095 → Ends z (pos 0) (pos (stepsOf k))
 own-ends Voltage z h = record { x-size = omega arith; x0-size = omega arith; xf-size = omega arith; above = record { lt = tt } }
@@ -126,11 +123,7 @@ given-back = record { unpacked = unpacked; reached = reached; packed = packed }
 width-is : {x0 xf : ℤ} → x0 <ℤ xf → pos (natAbs (xf -ℤ x0)) ≡ xf -ℤ x0
 width-is {x0} {xf} h =
     let A = is-parts x0 in let B = is-parts xf in
-    size-of (xf -ℤ x0) (is-le (is-nat 0) (is-minus B A) (omega (arith, of-lt A B h)))
-  where
-    size-of : (z : ℤ) → pos 0 ≤ℤ z → pos (natAbs z) ≡ z
-    size-of (pos n) l = refl
-    size-of (negsuc n) l = absurd (l .le)
+    pos-natAbs (xf -ℤ x0) (yes-nonNeg (is-le (is-nat 0) (is-minus B A) (omega (arith, of-lt A B h))))
 
 -- the distance of z from steps (x − x0) / v, times v
 abbrev off : ℕ → ℤ → ℤ → ℤ → ℤ → ℕ
@@ -161,11 +154,11 @@ held-mono low high a b h l =
     by-hold low high b h
     (λ m e. rw (e, held-low low high a (≤ℤ-<ℤ-trans l m)) (≤ℤ-refl low))
     (λ m e. rw e (held-within low high a h .1))
-    (λ m n e. rw e (raised m (≤ℤ-trans l n)))
+    (λ m n e. rw e (up-to m (≤ℤ-trans l n)))
   where
-    -- a number up to b that b is not held at
-    raised : low ≤ℤ b → a ≤ℤ high → heldOf low high a ≤ℤ b
-    raised m n = by-hold low high a h (λ p e. rw e m) (λ p e. clashℤ p n) (λ p q e. rw e l)
+    -- where b is not held, a is held at b or below
+    up-to : low ≤ℤ b → a ≤ℤ high → heldOf low high a ≤ℤ b
+    up-to m n = by-hold low high a h (λ p e. rw e m) (λ p e. clashℤ p n) (λ p q e. rw e l)
 
 pub every-code : EveryCode
 every-code = record {

@@ -103,7 +103,7 @@ const LIMIT: i64 = *VALUES.end();
 /// Outside the range: by one, far outside, and where 32 bits would bring it back.
 fn beyond(random: &mut Random) -> i64 {
     let over =
-        [LIMIT + 1, i64::MAX, i64::MAX - 1, LIMIT + (1 << 32), random.between(LIMIT, 1 << 62)];
+        [LIMIT + 1, i64::MAX, i64::MAX - 1, LIMIT + (1 << 32), random.between(LIMIT + 1, 1 << 62)];
     let size = random.pick(&over);
     random.pick(&[size, -size, i64::MIN, -LIMIT - 1])
 }

@@ -7,19 +7,25 @@ ghost use Rattle.layout.specs.Lent.{Puts};
 ghost use Rattle.rules.specs.Answer.{mOf};
 ghost use Rattle.engine.specs.Transcript.{lineAt, recordWith};
 ghost use Rattle.entries.specs.Entries.{entryOf};
+ghost use Rattle.grounds.specs.Grounds.{SteppedBy};
 ghost use Rattle.forms.specs.Forms.{emitted, roomOf};
+use entries::entry_of;
+use grounds::naming::ground_of;
+use grounds::number_of;
 use layout::AnswerRecord;
 use layout::EventRecord;
 use layout::records::put_answer;
 use rules::Answer;
 use rules::State;
 use rules::Stepped;
+use text::put_byte;
 use text::put_line;
 
-// The answers of a file as records of 24 bytes, or as printed lines.
+// The answers of a file as records of 24 bytes, or as printed lines; or the grounds of those that are over range, a byte each (R-9).
 pub enum Form {
     Records,
     Lines,
+    Grounds,
 }
 
 // The room that an event asks.
@@ -29,6 +35,7 @@ pub fn room_of(form: Form) -> usize
     match form {
         Form::Records => 24,
         Form::Lines => 72,
+        Form::Grounds => 1,
     }
 }
 
@@ -43,7 +50,7 @@ pub fn emit(
     event: EventRecord,
     next: Stepped,
 ) -> usize
-    requires { ⌜ (i < 2700) × (at + roomOf form ≤ length (now out)) × (mOf (next .answer) < 4294967296) ⌝ }
+    requires { ⌜ (i < 2700) × (at + roomOf form ≤ length (now out)) × (mOf (next .answer) < 4294967296) × SteppedBy before (entryOf event) next ⌝ }
     ensures { λ r. ⌜ Puts (now (out .entry)) at (emitted form (i + 1) (lineAt before (entryOf event) next)) (now (out .exit)) r ⌝ }
     ensures { λ r. ⌜ r ≤ at + roomOf form ⌝ }
 {
@@ -55,6 +62,10 @@ pub fn emit(
             at + 24
         }
         Form::Lines => put_line(out, at, i as u32 + 1, a),
+        Form::Grounds => {
+            let ground = ground_of(before, entry_of(event), next);
+            put_byte(out, at, number_of(ground))
+        }
     }
 }
 

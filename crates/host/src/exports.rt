@@ -8,10 +8,12 @@ ghost use Rattle.page.specs.Page.{FillsPage};
 ghost use Rattle.doubles.specs.Doubles.{hostRefusal, hostValues, hostSampleIn, hostAreaIn};
 ghost use Rattle.recorder.specs.Recorder.{packedRefusal, packedWord};
 ghost use Rattle.pens.specs.Pens.{packFor, unpackFor, unpackedRefusal, codeLeft, channelLeft};
+use answers::fill;
 use answers::run;
 use doubles::HostAnswer;
 use doubles::answers::area_in;
 use doubles::answers::sample_in;
+use forms::Form;
 use packing::write_records;
 use page::page;
 use pens::pack_into;
@@ -47,6 +49,17 @@ pub extern "C" fn irga_page(file: &[u8], every: u32, out: &mut [u8], written: &m
     ensures { λ r. ⌜ FillsPage (now (file .entry)) every (now (out .entry)) r (now (written .exit)) (now (out .exit)) ⌝ }
 {
     let made = page(file, every, out);
+    *written = made.written;
+    made.status
+}
+
+// Puts the ground of each event of a session file into `out`, a byte each, 1 to 4 where a run answers it with 8 and else 0: 0, or refusal 12 or 13,
+// which leaves `out` as it was. `written` becomes the count of bytes that it wrote, 0 with a refusal.
+#[no_mangle]
+pub extern "C" fn irga_grounds(file: &[u8], out: &mut [u8], written: &mut usize) -> u8
+    ensures { λ r. ⌜ FillsAs Form.Grounds (now (file .entry)) (now (out .entry)) r (now (written .exit)) (now (out .exit)) ⌝ }
+{
+    let made = fill(Form::Grounds, file, out);
     *written = made.written;
     made.status
 }

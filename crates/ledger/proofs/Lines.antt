@@ -142,7 +142,7 @@ module _ (sheets : List ℕ) (st : State) {ws : List ℤ} {xs : List Fraction} {
   -- ---- every entry
   good : {entry : Entry} {r : Stepped} → Ruled sheets st entry r → Good sheets g ws entry r
   unfolding ledgerStep wetsStep
-  good (refuses {event} {number} kind n) = refusal number b n (unasked event number) h k (rw kind)
+  good (refuses {event} {number} other n) = refusal number b n (unasked event number) h k (rw (other .0))
   good (malformed {kind}) = malformed-good kind (eqb kind 6) refl
   good (loads e w) = makes [] false tt tt (record { sheet = w; zero = omega arith; span-low = omega arith; span-high = omega arith; gas = refl }) idle (rw e)
   good (zeroes n) = makes [] false tt tt (record { sheet = h .sheet; zero = n; span-low = h .span-low; span-high = h .span-high; gas = h .gas }) idle refl

@@ -2,7 +2,7 @@
 use native.Mathlib.Omega.{arith}
 use borrow.Author.Needs.{needs}
 use Rattle.layout.proofs.RoundTrips.{length-answer}
-use Rattle.forms.proofs.Emitting.{records-are, lines-are}
+use Rattle.forms.proofs.Emitting.{records-are, lines-are, grounds-are}
 use Rattle.forms.proofs.emit.Statement.{statement}
 use Rattle.forms.proofs.emit.Tie as tie
 
@@ -11,6 +11,15 @@ put-answer-requires c κs = rw (c .before .enum-told .given .1) at (c .before .b
 
 put-line-requires : tie.Need-put-line-requires
 put-line-requires c κs = rw (c .before .enum-told2 .given .1) at (c .before .before .before .before .before .pre .1)
+
+ground-of-requires : tie.Need-ground-of-requires
+ground-of-requires c κs = rw (c .entry-of .ensures) (c .before .before .before .before .before .pre .3)
+
+put-byte-requires : tie.Need-put-byte-requires
+put-byte-requires c κs =
+    let d = c .before .before .before in
+    let fit = rw (d .before .enum-told3 .given .1) at (d .before .before .before .before .before .pre .1) in
+    omega arith
 
 returns : tie.Need-returns
 returns c =
@@ -33,9 +42,20 @@ returns-2 c =
     let p = d .put-line .ensures in
     (rw (lines-are (s .args .before) (s .args .event) (s .args .next) (r .ensures) _ e) (p .0), rw e (p .1))
 
+returns-3 : tie.Need-returns-3
+returns-3 c =
+    let d = c .before .before in
+    let g = d .before .before .before in
+    let e = g .before .before .enum-told3 .given .1 in
+    let s = g .before .before .before .before .before .before in
+    let k = rw (g .before .entry-of .ensures) at (g .ground-of .ensures) in
+    let p = d .put-byte .ensures in
+    (rw (grounds-are (s .args .before) _ (s .args .next) (d .before .number-of .ensures) k _ e) p, rw e (omega (arith, p .ends)))
+
 pub emit-spec : {M : Type 1} → statement M
 emit-spec =
     tie.close
     (tie.spec
     (λ c κs. search needs) (λ c. search needs) put-answer-requires (λ c. search needs) (λ c. search needs) (λ c. search needs)
-    (λ c. search needs) put-line-requires (λ c. search needs) returns (λ c. search needs) returns-2)
+    (λ c. search needs) put-line-requires (λ c. search needs) (λ c κs. search needs) ground-of-requires (λ c κs. search needs)
+    put-byte-requires (λ c. search needs) returns (λ c. search needs) returns-2 (λ c. search needs) returns-3)

@@ -1,0 +1,4 @@
+pub mod Signals
+pub mod Samples
+pub mod Others
+pub mod Promises

@@ -75,7 +75,11 @@ fn over_range(a: Answer) -> bool
         Answer::Done => false,
         Answer::Zeroed(_) => false,
         Answer::Spanned(_) => false,
-        Answer::Reading { r: _, wet: _, dry: _ } => false,
+        Answer::Reading {
+            r: _,
+            wet: _,
+            dry: _,
+        } => false,
         Answer::Area { n: _, area: _ } => false,
         Answer::Refused(number) => number == 8,
     }

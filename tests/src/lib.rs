@@ -26,6 +26,7 @@ pub mod engine;
 pub mod exact;
 pub mod figures;
 pub mod file;
+pub mod grounds;
 pub mod harness;
 pub mod hostile;
 pub mod instructions;

@@ -44,6 +44,15 @@ fn is_at(finding: &Finding, air: &Air, fault: Option<Fault>) -> bool {
     pressure && temperature
 }
 
+/// The reference signal that a sample goes by, if there is one: the stored finding's at its P and T, and
+/// else what a search finds.
+pub fn signal(stored: Stored, sheet: &Sheet, cylinder: i64, air: &Air) -> Option<i64> {
+    match stored.filter(|finding| is_at(finding, air, None)) {
+        Some(finding) => finding.found,
+        None => rules::reference_signal(sheet, cylinder, air).ok(),
+    }
+}
+
 /// The kinds that empty the store where they are accepted: load, reference and absolute.
 fn empties(kind: u8, fault: Option<Fault>) -> bool {
     match kind {

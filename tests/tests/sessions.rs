@@ -7,6 +7,7 @@ use std::sync::OnceLock;
 use irga_tests::engine::{step, Answer, Entry, Event, Mode, State};
 use irga_tests::exact::{self, Fraction};
 use irga_tests::file::{self, EventRecord, Session};
+use irga_tests::grounds;
 use irga_tests::harness::areas;
 use irga_tests::hostile;
 use irga_tests::roundings::{self, Rounding, ROUNDINGS};
@@ -99,44 +100,55 @@ fn each_sample(session: &Session, mut hand_on: impl FnMut(&State, i64, &Air, &An
     }
 }
 
-/// The four grounds of refusal 8 in document 01's order, at the signal of a sample that was
-/// refused with it.
-fn grounds(state: &State, raw: i64, air: &Air) -> [bool; 4] {
-    let sheet = state.sheet.expect("a loaded sheet");
-    let (signal, _) = signals(state, raw, air);
-    let steps = rules::steps(&sheet, air, signal);
-    [
-        signal > rules::SIGNAL_LIMIT,
-        signal >= sheet.k,
-        steps.z > rules::Z_LIMIT,
-        steps.c > rules::WET_LIMIT,
-    ]
+/// Refusals with 8 in one mode: by the first ground that applies, by the ground that applies alone,
+/// and in how many sessions the first one occurs.
+#[derive(Debug, Default)]
+struct OverRange {
+    first: [u32; 4],
+    alone: [u32; 4],
+    sessions: [u32; 4],
 }
 
-/// Walks a session and counts its refusals with 8, by the first ground that applies and by
-/// the ground that applies alone.
-fn count_grounds(session: &Session, first: &mut [u32; 4], alone: &mut [u32; 4]) {
-    each_sample(session, |state, raw, air, answer| {
-        if answer.refusal == 8 {
-            let grounds = grounds(state, raw, air);
-            let at = grounds.iter().position(|ground| *ground).expect("a ground for refusal 8");
-            first[at] += 1;
-            alone[at] += u32::from(grounds.iter().filter(|ground| **ground).count() == 1);
+impl OverRange {
+    fn count(&mut self, session: &Session, absolutely: bool) {
+        let before = self.first;
+        each_sample(session, |state, raw, air, answer| {
+            if answer.refusal == 8 && (state.mode == Mode::Absolute) == absolutely {
+                let sheet = state.sheet.expect("a loaded sheet");
+                let passed = grounds::passed(&sheet, air, signals(state, raw, air).0);
+                let at = passed.iter().position(|passed| *passed).expect("a ground of refusal 8");
+                self.first[at] += 1;
+                self.alone[at] += u32::from(passed.iter().filter(|passed| **passed).count() == 1);
+            }
+        });
+        for (place, sessions) in self.sessions.iter_mut().enumerate() {
+            *sessions += u32::from(self.first[place] > before[place]);
         }
-    });
+    }
 }
 
-/// A fair share is a quarter. A signal above 150,000,000 never stands alone: its z is above
-/// 10^8 at any pressure.
+/// A fair share is a quarter, in both modes together. A signal above 150,000,000 never stands alone:
+/// its z is above 10^8 at any pressure.
 #[test]
 fn refusal_8_by_each_of_its_grounds() {
-    let (mut first, mut alone) = ([0; 4], [0; 4]);
-    sound().for_each(|session| count_grounds(&session, &mut first, &mut alone));
+    let [mut absolute, mut against] = [OverRange::default(), OverRange::default()];
+    for session in sound() {
+        absolute.count(&session, true);
+        against.count(&session, false);
+    }
+    println!("over range in absolute mode: {absolute:?}");
+    println!("over range against a reference: {against:?}");
+    let both = |one: [u32; 4], other: [u32; 4]| [0, 1, 2, 3].map(|at| one[at] + other[at]);
+    let (first, alone) =
+        (both(absolute.first, against.first), both(absolute.alone, against.alone));
     let all: u32 = first.iter().sum();
     println!("refusal 8, {all} times: by the first ground {first:?}, by one alone {alone:?}");
     assert!(all >= 2_000);
     assert!(first.iter().all(|count| 6 * count >= all), "{first:?} of {all}");
     assert!(alone[1..].iter().all(|count| 6 * count >= all), "{alone:?} of {all}");
+    for met in [absolute, against] {
+        assert!(met.first.iter().all(|count| *count >= 100), "{met:?}");
+    }
 }
 
 /// Samples at signals around zero, in one mode.

@@ -139,8 +139,7 @@ fn refusal_8_by_each_of_its_grounds() {
     println!("over range in absolute mode: {absolute:?}");
     println!("over range against a reference: {against:?}");
     let both = |one: [u32; 4], other: [u32; 4]| [0, 1, 2, 3].map(|at| one[at] + other[at]);
-    let (first, alone) =
-        (both(absolute.first, against.first), both(absolute.alone, against.alone));
+    let (first, alone) = (both(absolute.first, against.first), both(absolute.alone, against.alone));
     let all: u32 = first.iter().sum();
     println!("refusal 8, {all} times: by the first ground {first:?}, by one alone {alone:?}");
     assert!(all >= 2_000);

@@ -3,13 +3,16 @@
 //! Every byte of the lent output is compared, and every printed line. Since the
 //! answers are then the same, the exact ledger is walked over ours: demand 3's
 //! distances are checked on each session too. `plans` does the same for a writer of session
-//! files, `pages` for a writer of pages, and `recorders` for a chart recorder's words.
+//! files, `pages` for a writer of pages, `recorders` for a chart recorder's words, and `grounds` for
+//! what samples are over range by.
 
+mod grounds;
 mod pages;
 mod plans;
 pub mod recorders;
 mod tally;
 
+pub use grounds::check_grounds;
 pub use pages::check_page;
 pub use tally::Tally;
 

@@ -2,12 +2,13 @@
 //! them, signals over range by every ground, noise around zero, flat lines, rooms that
 //! are hardly apart, halves at every rounding, hostile kinds, padding and fields, damaged
 //! headers and lengths, long integrations, and lists with hardly an accepted event. `plans`
-//! and `faults` invent what a writer of session files is given, and `pages` has sessions
-//! whose figures are hard to round.
+//! and `faults` invent what a writer of session files is given, `pages` has sessions
+//! whose figures are hard to round, and `grounds` such that aim at the limits of refusal 8.
 
 mod author;
 mod damage;
 pub mod faults;
+pub mod grounds;
 mod numbers;
 pub mod pages;
 pub mod plans;

@@ -1,6 +1,8 @@
 //! Document 02's R-9: the grounds of refusal 8. A sample that is over range has passed one of four
 //! limits or several, and the first of them, in the paper's order, is its ground.
 
+pub mod by_hand;
+
 use crate::engine::{Entry, Event, Mode, State};
 use crate::file::{self, Outcome, Session};
 use crate::rules::{self, Air, Sheet};
@@ -85,12 +87,12 @@ pub fn passed(sheet: &Sheet, air: &Air, signal: i64) -> [bool; 4] {
     ]
 }
 
-/// The ground of a sample from a state with what is stored; an entry that is no well-formed sample
-/// has none, and nor has a signal so far below zero that it is refused with 7.
+/// The ground of a sample from a state with what is stored; an entry that is no well-formed sample has
+/// none. Nor has a signal that is refused with 7: so far below zero it passes none of the limits.
 pub fn ground(state: &State, stored: Stored, entry: &Entry) -> Ground {
     let read = Sample::of(entry).and_then(|sample| {
         let (sheet, signal) = signal(state, stored, &sample)?;
-        Some(passed(&sheet, &sample.air, signal)).filter(|_| signal >= rules::LOWEST_SIGNAL)
+        Some(passed(&sheet, &sample.air, signal))
     });
     read.map_or(Ground::None, Ground::first)
 }

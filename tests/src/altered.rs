@@ -3,6 +3,7 @@
 
 use crate::bench;
 use crate::engine::{self, Answer, Entry, Event, Integration, Mode, State};
+use crate::grounds;
 use crate::rules::{Refusal, Sheet, SPAN_UNIT};
 use crate::store::{self, Finding, Stored};
 
@@ -10,7 +11,7 @@ const P: u32 = 101_300;
 const T: u32 = 29_815;
 
 /// Reference signals from 0 to 150,000,000, and nothing.
-const FINDINGS: [Option<i64>; 11] = [
+const FINDINGS: [Option<i64>; 12] = [
     Some(0),
     Some(1),
     Some(9_999_999),
@@ -19,6 +20,7 @@ const FINDINGS: [Option<i64>; 11] = [
     Some(39_999_999),
     Some(40_000_000),
     Some(40_000_001),
+    Some(80_000_000),
     Some(149_999_999),
     Some(150_000_000),
     None,
@@ -46,7 +48,8 @@ fn numbers(answer: &Answer) -> String {
     format!("{} {} {} {}", answer.refusal, answer.m, answer.x, answer.y)
 }
 
-/// A sample at the stored P and T: what a store gives, and what the rules give with that R.
+/// A sample at the stored P and T: what a store gives, what the rules give with that R, and by which ground
+/// it is over range, if it is.
 fn row(k: i64, found: Option<i64>, raw: i32) -> String {
     let (state, stored) = holding(k, found, against(0));
     let entry = Entry::Known(sample(raw, P, T));
@@ -54,7 +57,9 @@ fn row(k: i64, found: Option<i64>, raw: i32) -> String {
     assert_eq!(kept, stored, "what is stored stays");
     let with_it = |_: &_, _, _: &_| found.ok_or(Refusal::NoReferenceSignal);
     let (by_rules, _) = engine::step_by(&with_it, &[], &state, &entry);
-    format!("{k} {} {raw} | {} | {}\n", signal(found), numbers(&answer), numbers(&by_rules))
+    let ground = grounds::ground(&state, stored, &entry).number();
+    let (case, answers) = (signal(found), [answer, by_rules].map(|answer| numbers(&answer)));
+    format!("{k} {case} {raw} | {} | {ground}\n", answers.join(" | "))
 }
 
 fn signal(found: Option<i64>) -> String {
@@ -135,7 +140,7 @@ fn others() -> String {
 }
 
 pub fn text() -> String {
-    let mut text = "K R raw | step | the rules with that R\n".to_string();
+    let mut text = "K R raw | step | the rules with that R | ground\n".to_string();
     for k in [200_000_000, 10_000_000] {
         for found in FINDINGS {
             RAWS.iter().for_each(|raw| text.push_str(&row(k, found, *raw)));

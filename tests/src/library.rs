@@ -1,4 +1,4 @@
-//! The proved library: its eight C functions as declared in include/irga.h, and a safe
+//! The proved library: its nine C functions as declared in include/irga.h, and a safe
 //! function over each. Slices and references meet what the header asks: no pointer is
 //! NULL, and places that are written overlap no other.
 
@@ -18,6 +18,14 @@ extern "C" {
     ) -> u8;
 
     fn irga_lines(
+        file: *const u8,
+        file_length: usize,
+        out: *mut u8,
+        out_length: usize,
+        written: *mut usize,
+    ) -> u8;
+
+    fn irga_grounds(
         file: *const u8,
         file_length: usize,
         out: *mut u8,
@@ -67,6 +75,11 @@ pub fn run(file: &[u8], output: &mut [u8]) -> Outcome {
 /// Runs a lent file and writes the lines from the start of the lent output.
 pub fn lines(file: &[u8], output: &mut [u8]) -> Outcome {
     over_lent(irga_lines, file, output)
+}
+
+/// Writes the grounds of a lent file from the start of the lent output, a byte for each event.
+pub fn grounds(file: &[u8], output: &mut [u8]) -> Outcome {
+    over_lent(irga_grounds, file, output)
 }
 
 /// Writes the page of a lent file from the start of the lent output.

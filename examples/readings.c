@@ -1,7 +1,8 @@
 /*
  * Runs a lesson and prints its readings: readings [SESSION], from standard input without
  * a name. One line for each accepted sample and area and for each refused event, with the
- * event's ordinal in the session.
+ * event's ordinal in the session; a sample that is over range has beside it which limit it
+ * passes, and what to turn.
  *
  * Exit status: 0 the file was accepted, 1 it was refused, 2 it could not be read or the
  * lines could not be written. A pipe that nobody reads any more ends it by SIGPIPE, unless
@@ -18,6 +19,7 @@ enum { ACCEPTED = 0, REFUSED = 1, TROUBLE = 2 };
 /* One byte more than any session has: a longer file fills it, and cannot pass for a session. */
 static uint8_t file[IRGA_FILE_MAX + 1];
 static uint8_t answers[IRGA_ANSWERS_MAX];
+static uint8_t grounds[IRGA_GROUNDS_MAX];
 
 static const char *const meanings[] = {
     [IRGA_ACCEPTED] = "accepted",
@@ -41,6 +43,30 @@ static const char *meaning(unsigned refusal) {
     return refusal < known ? meanings[refusal] : "unknown refusal";
 }
 
+/* Of a sample that is over range: the limit that it passes, and where to look. */
+static const char *const advice[] = {
+    [IRGA_GROUND_SIGNAL] = "the signal is above 150,000,000: set zero and span again, look at "
+                           "the reference cylinder, or thin the gas",
+    [IRGA_GROUND_K] = "the signal is not below the sheet's K: look whether this is the right "
+                      "sheet, set zero and span again, or thin the gas",
+    [IRGA_GROUND_REDUCED] = "the signal at standard pressure is above 100,000,000: look at "
+                            "pressure and vapour pressure, or thin the gas",
+    [IRGA_GROUND_WET] = "more than 3,000 umol/mol: thin the gas; if it has less, look at sheet, "
+                        "span and temperature",
+};
+
+static const char *what_to_turn(unsigned ground) {
+    size_t known = sizeof advice / sizeof advice[0];
+    return ground < known ? advice[ground] : "unknown ground";
+}
+
+static void print_refusal(unsigned long ordinal, unsigned refusal, unsigned ground) {
+    printf("%lu: refused %u, %s", ordinal, refusal, meaning(refusal));
+    if (ground != IRGA_GROUND_NONE)
+        printf(": %s", what_to_turn(ground));
+    printf("\n");
+}
+
 /*
  * 10^6 pmol/mol are 1 umol/mol, so six decimals show every pmol/mol. An area counts in
  * pmol/mol times 0.1 s, 10^7 to the umol/mol s: seven decimals. The quotients are rounded
@@ -54,7 +80,7 @@ static void print_area(unsigned long ordinal, double area) {
     printf("%lu: area %.7f umol/mol s\n", ordinal, area / 1e7);
 }
 
-static void print_answer(unsigned long ordinal, const uint8_t *answer) {
+static void print_answer(unsigned long ordinal, const uint8_t *answer, unsigned ground) {
     unsigned refusal = answer[IRGA_ANSWER_REFUSAL];
     double wet, dry, signal, area;
     if (refusal == IRGA_ACCEPTED && answer[IRGA_ANSWER_KIND] == IRGA_SAMPLE) {
@@ -67,7 +93,7 @@ static void print_answer(unsigned long ordinal, const uint8_t *answer) {
             print_area(ordinal, area);
     }
     if (refusal != IRGA_ACCEPTED)
-        printf("%lu: refused %u, %s\n", ordinal, refusal, meaning(refusal));
+        print_refusal(ordinal, refusal, ground);
 }
 
 static int trouble(const char *what, const char *name) {
@@ -86,13 +112,16 @@ static int read_session(FILE *in, size_t *length) {
 static int print_lesson(const char *name, size_t length) {
     size_t written, at;
     uint8_t status = irga_run(file, length, answers, sizeof answers, &written);
+    if (status == IRGA_ACCEPTED)
+        status = irga_grounds(file, length, grounds, sizeof grounds, &written);
     if (status != IRGA_ACCEPTED) {
         fprintf(stderr, "readings: %s: refused %u, %s%s\n", name, (unsigned)status,
                 meaning(status), length > IRGA_FILE_MAX ? "; it is too long" : "");
         return REFUSED;
     }
-    for (at = 0; at < written; at += IRGA_RECORD_BYTES)
-        print_answer((unsigned long)(at / IRGA_RECORD_BYTES) + 1, answers + at);
+    /* A ground for each event. */
+    for (at = 0; at < written; at++)
+        print_answer((unsigned long)at + 1, answers + at * IRGA_RECORD_BYTES, grounds[at]);
     /* A full disk may show only when the last line leaves. */
     errno = 0;
     if (fflush(stdout) != 0 || ferror(stdout))

@@ -5,9 +5,10 @@
  * zero, read a sample, ...); README.md has its bytes, under "The session file".
  * irga_run answers each event with a record of 24 bytes; irga_reading and irga_area take
  * the numbers out of such a record as doubles; irga_lines gives the same answers as text,
- * and irga_page the accepted samples as a page for the lab book. irga_write makes a session
- * file, so that a lesson can be prepared in advance. irga_pack makes of a wet value the word
- * that a chart recorder's channel is sent, and irga_unpack takes such a word apart.
+ * and irga_page the accepted samples as a page for the lab book. irga_grounds says of each
+ * sample that is over range which limit it passes. irga_write makes a session file, so that a
+ * lesson can be prepared in advance. irga_pack makes of a wet value the word that a chart
+ * recorder's channel is sent, and irga_unpack takes such a word apart.
  *
  * The library is libhost.a, for x86-64 Linux, which `rt staticlib host` makes. It calls no
  * other library:
@@ -17,7 +18,7 @@
  * examples/readings.c reads a session, examples/plan.c prepares one, examples/recorder.c prints
  * the words that draw one on a chart recorder.
  *
- * What holds for all eight functions:
+ * What holds for all nine functions:
  *
  * - No state is kept between calls and nothing is allocated. Any number of threads may
  *   call at once, as long as nothing that a call is lent is written by anyone else until
@@ -58,6 +59,8 @@ extern "C" {
 /* An output of this size is long enough for any session: 24 * 2700 and 72 * 2700. */
 #define IRGA_ANSWERS_MAX 64800
 #define IRGA_LINES_MAX 194400
+/* The same for irga_grounds, a byte for each of 2,700 events. */
+#define IRGA_GROUNDS_MAX 2700
 /*
  * The greatest length that a page can have: of 2,700 events one has to be the load, and each
  * of the 2,699 samples after it has a header line of its own, 2 * 73 * 2699.
@@ -140,7 +143,8 @@ enum irga_refusal {
     IRGA_INPUT_LIMITS = 6,         /* raw signal, pressure, temperature or vapour pressure
                                       outside its limits, the reference gas's included */
     IRGA_BELOW_ZERO = 7,           /* the rounded signal is below -2,000,000 */
-    IRGA_OVER_RANGE = 8,           /* the signal or the mole fraction is over range */
+    IRGA_OVER_RANGE = 8,           /* the signal or the mole fraction is over range: irga_grounds
+                                      says by which limit */
     IRGA_NO_REFERENCE_SIGNAL = 9,  /* no signal reads the reference cylinder */
     IRGA_NOT_NOW = 10,             /* the event does not fit the mode or the integration */
     IRGA_MALFORMED_EVENT = 11,     /* unknown kind, or a byte of the event that must be zero
@@ -156,6 +160,23 @@ enum irga_refusal {
     IRGA_RECORDER_LIMITS = 18      /* of a chart recorder: the value, an end of the scale or the
                                       channel outside its range, high not above low, or a kind
                                       that is no enum irga_channel_kind */
+};
+
+/*
+ * What a sample that is answered with IRGA_OVER_RANGE is over range by: the first of these four
+ * limits, in this order, that it passes. It may pass later ones too. The signal is that of the
+ * sample as read against nothing: with zero and span and, against a reference, with the
+ * reference signal. P and e are the sample's.
+ */
+enum irga_ground {
+    IRGA_GROUND_NONE = 0,    /* no sample, or one that has another answer */
+    IRGA_GROUND_SIGNAL = 1,  /* the signal is above 150,000,000, which is 15 V */
+    IRGA_GROUND_K = 2,       /* the signal is at the sheet's K or above it */
+    IRGA_GROUND_REDUCED = 3, /* the signal reduced to the standard pressure, rounded
+                                10,130,000 times the signal by 100 P + 57 e, is above
+                                100,000,000 */
+    IRGA_GROUND_WET = 4      /* the wet value would be above 3,000,000,000, which is
+                                3,000 umol/mol */
 };
 
 /*
@@ -225,6 +246,28 @@ uint8_t irga_lines(const uint8_t *file, size_t file_length,
  */
 uint8_t irga_page(const uint8_t *file, size_t file_length, uint32_t header_every,
                   uint8_t *out, size_t out_length, size_t *written);
+
+/*
+ * Which limit each sample of the same run passes that is over range, so that it is known what to
+ * turn: one byte for each event, an enum irga_ground.
+ *
+ * file, file_length   the session file
+ * out, out_length     where the grounds go; the event count is enough, and IRGA_GROUNDS_MAX
+ *                     bytes always are
+ * written             gets the number of bytes written to out
+ *
+ * A byte is 1 to 4 exactly where irga_run answers the event with IRGA_OVER_RANGE, and names the
+ * first limit that is passed, in the order of enum irga_ground; it is 0 for every other event,
+ * accepted ones, those refused with another number, and all that are no samples.
+ *
+ * Returns IRGA_ACCEPTED, IRGA_MALFORMED_FILE or IRGA_OUTPUT_TOO_SHORT (out_length below the
+ * event count; a malformed file is told first).
+ *
+ * Touches: with 0, the first *written bytes of out, as many as there are events, in their order;
+ * with 12 or 13, *written is 0. All other bytes of out stay.
+ */
+uint8_t irga_grounds(const uint8_t *file, size_t file_length,
+                     uint8_t *out, size_t out_length, size_t *written);
 
 /*
  * The numbers of an accepted sample's answer, each the whole number exactly.

@@ -1,7 +1,8 @@
 /*
- * stack SESSION...: the most bytes of stack that irga_run, irga_lines, irga_page, irga_write,
- * and irga_pack with irga_unpack took over the sessions, each in a line of its own; irga_write
- * makes each of them again from its records, and how many came out as they were is the last line.
+ * stack SESSION...: the most bytes of stack that irga_run, irga_lines, irga_page, irga_grounds,
+ * irga_write, and irga_pack with irga_unpack took over the sessions, each in a line of its own;
+ * irga_write makes each of them again from its records, and how many came out as they were is the
+ * last line.
  * Each call runs on a stack of its own that was filled with one byte before; what still has that
  * byte was not touched. The few bytes that entering takes are counted too.
  */
@@ -21,6 +22,7 @@ static ucontext_t here, there;
 static void run(void) { irga_run(file, length, out, sizeof out, &written); }
 static void lines(void) { irga_lines(file, length, out, sizeof out, &written); }
 static void page(void) { irga_page(file, length, 1, out, sizeof out, &written); }
+static void grounds(void) { irga_grounds(file, length, out, sizeof out, &written); }
 
 /* A header of 16 bytes begins with the sheet count, at most 16, so that its first byte has it. */
 static void plan(void) {
@@ -41,7 +43,7 @@ static void record(void) {
     irga_unpack(IRGA_VOLTAGE, word, &code, &channel);
 }
 
-static void (*const calls[])(void) = {run, lines, page, plan, record};
+static void (*const calls[])(void) = {run, lines, page, grounds, plan, record};
 enum { CALLS = sizeof calls / sizeof calls[0] };
 
 static size_t taken_by(void (*call)(void)) {

@@ -25,18 +25,18 @@ extern "C" {
         written: *mut usize,
     ) -> u8;
 
-    fn irga_grounds(
+    fn irga_page(
         file: *const u8,
         file_length: usize,
+        header_every: u32,
         out: *mut u8,
         out_length: usize,
         written: *mut usize,
     ) -> u8;
 
-    fn irga_page(
+    fn irga_grounds(
         file: *const u8,
         file_length: usize,
-        header_every: u32,
         out: *mut u8,
         out_length: usize,
         written: *mut usize,
@@ -77,11 +77,6 @@ pub fn lines(file: &[u8], output: &mut [u8]) -> Outcome {
     over_lent(irga_lines, file, output)
 }
 
-/// Writes the grounds of a lent file from the start of the lent output, a byte for each event.
-pub fn grounds(file: &[u8], output: &mut [u8]) -> Outcome {
-    over_lent(irga_grounds, file, output)
-}
-
 /// Writes the page of a lent file from the start of the lent output.
 #[allow(unsafe_code)]
 pub fn page(file: &[u8], every: u32, output: &mut [u8]) -> Outcome {
@@ -89,6 +84,11 @@ pub fn page(file: &[u8], every: u32, output: &mut [u8]) -> Outcome {
     let (out, room) = (output.as_mut_ptr(), output.len());
     let status = unsafe { irga_page(file.as_ptr(), file.len(), every, out, room, &mut written) };
     Outcome { status, written }
+}
+
+/// Writes the grounds of a lent file from the start of the lent output, a byte for each event.
+pub fn grounds(file: &[u8], output: &mut [u8]) -> Outcome {
+    over_lent(irga_grounds, file, output)
 }
 
 /// Wet, dry and signal of a sample's answer.

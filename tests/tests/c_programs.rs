@@ -2,13 +2,14 @@
 //! archive: figures and lines are those of this implementation and of the program that
 //! IRGA_PROGRAM names.
 
-use std::collections::HashMap;
+use std::collections::{BTreeSet, HashMap};
 use std::fs::{self, File};
 use std::path::{Path, PathBuf};
 use std::process::{Command, Output, Stdio};
 
 use irga_tests::figures::decimal;
-use irga_tests::file;
+use irga_tests::file::{self, Session};
+use irga_tests::grounds::{self, Ground};
 use irga_tests::harness::{Executable, Program};
 use irga_tests::lesson;
 use irga_tests::page;
@@ -110,6 +111,14 @@ const REFUSALS: [(&str, Refusal); 18] = [
     ("IRGA_RECORDER_LIMITS", Refusal::RecorderLimits),
 ];
 
+const GROUNDS: [(&str, Ground); 5] = [
+    ("IRGA_GROUND_NONE", Ground::None),
+    ("IRGA_GROUND_SIGNAL", Ground::Signal),
+    ("IRGA_GROUND_K", Ground::K),
+    ("IRGA_GROUND_REDUCED", Ground::Reduced),
+    ("IRGA_GROUND_WET", Ground::Wet),
+];
+
 /// The header's constants by name, and what this implementation or document 01 has.
 fn constants() -> Vec<(&'static str, usize)> {
     let (sheets, events) = (file::SHEETS_LIMIT, file::EVENTS_LIMIT);
@@ -123,6 +132,7 @@ fn constants() -> Vec<(&'static str, usize)> {
         ("IRGA_FILE_MAX", lesson::longest().to_bytes().len()),
         ("IRGA_ANSWERS_MAX", file::RECORD_BYTES * events),
         ("IRGA_LINES_MAX", file::LINE_ROOM * events),
+        ("IRGA_GROUNDS_MAX", events),
         ("IRGA_PAGE_MAX", page::LONGEST),
         ("IRGA_HEADER_EVERY_MIN", *page::EVERY.start() as usize),
         ("IRGA_HEADER_EVERY_MAX", *page::EVERY.end() as usize),
@@ -134,6 +144,7 @@ fn constants() -> Vec<(&'static str, usize)> {
     ];
     constants.extend(OFFSETS);
     constants.extend(REFUSALS.map(|(name, refusal)| (name, usize::from(refusal.number()))));
+    constants.extend(GROUNDS.map(|(name, ground)| (name, usize::from(ground.number()))));
     constants
 }
 
@@ -155,37 +166,40 @@ fn constants_are_those_of_the_format() {
     compile(C, &["-fsyntax-only", path.to_str().expect("a path in UTF-8")]);
 }
 
-/// A program that calls all eight functions and gives their sum of statuses: three times 12 for a
+/// A program that calls all nine functions and gives their sum of statuses: four times 12 for a
 /// file of one byte, 11 + 11 for an answer of one, 11 for an event of one, 18 + 18 for a kind of
 /// channel that there is not.
 const CALLS: &str = r#"
 #include "irga.h"
 int main(void) {
     uint8_t byte = 0, other = 0, out = 7;
-    size_t written = 1, lines = 1, page = 1, planned = 1;
+    size_t written = 1, lines = 1, page = 1, grounds = 1, planned = 1;
     double a = 1, b = 2, c = 3;
     uint16_t word = 5;
     int16_t code = 6;
     int sum = irga_run(&byte, 1, &out, 1, &written);
     sum += irga_lines(&byte, 1, &out, 1, &lines);
     sum += irga_page(&byte, 1, IRGA_HEADER_EVERY_MAX, &out, 1, &page);
+    sum += irga_grounds(&byte, 1, &out, 1, &grounds);
     sum += irga_reading(&byte, 1, &a, &b, &c);
     sum += irga_area(&byte, 1, &a);
     sum += irga_write(&byte, 0, &other, 1, &out, 1, &planned);
     sum += irga_pack(IRGA_CURRENT + 1, 0, -IRGA_RECORDER_MAX, IRGA_RECORDER_MAX, 0, &word);
     sum += irga_unpack(IRGA_CURRENT + 1, 0, &code, &out);
-    if (written != 0 || lines != 0 || page != 0 || planned != 0 || word != 0 || code != 6)
+    if (written != 0 || lines != 0 || page != 0 || grounds != 0 || planned != 0)
+        return 0;
+    if (word != 0 || code != 6)
         return 0;
     return out == 7 && a == 1 && b == 2 && c == 3 ? sum : 0;
 }
 "#;
 
 #[test]
-fn all_eight_functions_link_from_c_and_from_cpp() {
+fn all_nine_functions_link_from_c_and_from_cpp() {
     for (compiler, name) in [(C, "calls.c"), (CPP, "calls.cpp")] {
         let status = Command::new(link(compiler, name, CALLS)).status();
         let status = status.expect("the program starts").code();
-        assert_eq!(status, Some(3 * 12 + 11 + 11 + 11 + 18 + 18), "{name}");
+        assert_eq!(status, Some(4 * 12 + 11 + 11 + 11 + 18 + 18), "{name}");
     }
 }
 
@@ -228,6 +242,50 @@ fn pages_from_c_and_from_cpp() {
             assert_eq!(output.status.code(), Some(status), "{name} {every} {fewer}");
             assert!(output.stdout == owed, "{name} {every} {fewer}");
         }
+    }
+}
+
+/// Prints the grounds of standard input, each as a digit, from a buffer that is given so many bytes:
+/// GROUNDS ROOM. Its exit status is that of irga_grounds.
+const GROUND_DIGITS: &str = r#"
+#include <stdio.h>
+#include <stdlib.h>
+#include "irga.h"
+static uint8_t file[IRGA_FILE_MAX + 1], grounds[IRGA_GROUNDS_MAX];
+int main(int count, char **words) {
+    size_t length = fread(file, 1, sizeof file, stdin), written = 1, at;
+    size_t room = count > 1 ? strtoul(words[1], NULL, 10) : sizeof grounds;
+    uint8_t status = irga_grounds(file, length, grounds, room, &written);
+    for (at = 0; at < written; at++)
+        putchar('0' + grounds[at]);
+    return status;
+}
+"#;
+
+/// Sessions worked out by hand, with all the room, with just enough, and with a byte less; and a file
+/// that is none.
+#[test]
+fn grounds_from_c_and_from_cpp() {
+    let path = scratch("grounds.session");
+    for (compiler, name) in [(C, "grounds.c"), (CPP, "grounds.cpp")] {
+        let program = link(compiler, name, GROUND_DIGITS);
+        let digits = |room: usize, status: i32, owed: &str| {
+            let output = run(&program, &[Path::new(&room.to_string())], Some(&path));
+            assert_eq!(output.status.code(), Some(status), "{name} {room}");
+            assert_eq!(String::from_utf8_lossy(&output.stdout), owed, "{name} {room}");
+        };
+        for owed in grounds::by_hand::owed_grounds() {
+            fs::write(&path, owed.session.to_bytes()).expect("a written file");
+            let text: String = owed.grounds.iter().map(u8::to_string).collect();
+            digits(file::EVENTS_LIMIT, 0, &text);
+            digits(text.len(), 0, &text);
+            if !text.is_empty() {
+                digits(text.len() - 1, 13, "");
+            }
+        }
+        fs::write(&path, [0; 17]).expect("a written file");
+        digits(file::EVENTS_LIMIT, 12, "");
+        digits(0, 12, "");
     }
 }
 
@@ -298,40 +356,57 @@ fn run(program: &Path, words: &[&Path], input: Option<&Path>) -> Output {
         .expect("the program starts")
 }
 
-/// What the program owes to one line of a session; of a refusal only what comes before
-/// its meaning.
-fn owed(line: &str) -> Option<String> {
+/// What the program owes to one line of a session.
+enum OwedLine {
+    Whole(String),
+    /// What comes before a refusal's meaning, and whose meaning it is: the number's, or the ground's.
+    Refused(String, (i64, u8)),
+}
+
+fn owed(line: &str, ground: Ground) -> Option<OwedLine> {
     let numbers: Vec<i64> = line.split(' ').map(|word| word.parse().expect("a number")).collect();
     let &[ordinal, kind, refusal, _, x, y] = &numbers[..] else {
         panic!("a line of {} numbers", numbers.len());
     };
-    match (refusal, kind) {
+    let whole = match (refusal, kind) {
         (0, 6) => {
             let (wet, dry) = (decimal(x, 6), decimal(y, 6));
-            Some(format!("{ordinal}: wet {wet} umol/mol, dry {dry} umol/mol"))
+            format!("{ordinal}: wet {wet} umol/mol, dry {dry} umol/mol")
         }
-        (0, 9) => Some(format!("{ordinal}: area {} umol/mol s", decimal(x, 7))),
-        (0, _) => None,
-        _ => Some(format!("{ordinal}: refused {refusal}, ")),
-    }
+        (0, 9) => format!("{ordinal}: area {} umol/mol s", decimal(x, 7)),
+        (0, _) => return None,
+        _ => {
+            let over = if refusal == 8 { "over range: " } else { "" };
+            let before = format!("{ordinal}: refused {refusal}, {over}");
+            return Some(OwedLine::Refused(before, (refusal, ground.number())));
+        }
+    };
+    Some(OwedLine::Whole(whole))
 }
 
-/// Compares what was printed with the lines of a session, and gathers what each refusal
-/// number was said to mean.
-fn assert_owed(printed: &[u8], lines: &str, meanings: &mut HashMap<String, String>) {
+/// What each refusal, and each ground of refusal 8, was said to mean.
+type Meanings = HashMap<(i64, u8), String>;
+
+/// Compares what was printed with the lines of a session, and gathers the meanings.
+fn assert_owed(printed: &[u8], session: &[u8], meanings: &mut Meanings) {
     let printed = std::str::from_utf8(printed).expect("a text");
     assert!(printed.is_empty() || printed.ends_with('\n'));
-    let owed: Vec<String> = lines.lines().filter_map(owed).collect();
+    let grounds = grounds::of_session(&Session::open(session).expect("a session"));
+    let lines = lines(session);
+    let owed: Vec<OwedLine> =
+        lines.lines().zip(grounds).filter_map(|(line, ground)| owed(line, ground)).collect();
     assert_eq!(printed.lines().count(), owed.len());
     for (line, owed) in printed.lines().zip(&owed) {
-        let Some((_, number)) = owed.split_once(": refused ") else {
-            assert_eq!(line, owed);
-            continue;
-        };
-        let meaning = line.strip_prefix(owed.as_str()).unwrap_or_else(|| panic!("{line}, {owed}"));
-        assert!(!meaning.is_empty());
-        let known = meanings.entry(number.to_string()).or_insert_with(|| meaning.to_string());
-        assert_eq!(known, meaning);
+        match owed {
+            OwedLine::Whole(whole) => assert_eq!(line, whole),
+            OwedLine::Refused(before, whose) => {
+                let meaning = line.strip_prefix(before.as_str());
+                let meaning = meaning.unwrap_or_else(|| panic!("{line}, {before}"));
+                assert!(!meaning.is_empty());
+                let known = meanings.entry(*whose).or_insert_with(|| meaning.to_string());
+                assert_eq!(known, meaning);
+            }
+        }
     }
 }
 
@@ -353,14 +428,14 @@ fn readings_of_the_lesson() {
     for output in [run(&program, &[&path], None), run(&program, &[], Some(&path))] {
         assert_eq!(output.status.code(), Some(0));
         assert!(output.stderr.is_empty());
-        assert_owed(&output.stdout, &lines(&session), &mut meanings);
+        assert_owed(&output.stdout, &session, &mut meanings);
         assert_eq!(output.stdout.iter().filter(|byte| **byte == b'\n').count(), 300 + 1);
     }
     assert!(meanings.is_empty(), "the lesson has no refusal");
 }
 
-/// Sessions of every profile, until every refusal of an event was met; each number has one
-/// meaning and no two have the same.
+/// Sessions of every profile, until every refusal of an event was met, and 8 by each of its grounds;
+/// each number, or ground, has one meaning and no two have the same.
 #[test]
 fn readings_of_sessions_with_refusals() {
     let program = readings("refusals");
@@ -373,16 +448,50 @@ fn readings_of_sessions_with_refusals() {
         fs::write(&path, &session).expect("the session can be written");
         let output = run(&program, &[&path], None);
         assert_eq!(output.status.code(), Some(0));
-        assert_owed(&output.stdout, &lines(&session), &mut meanings);
+        assert_owed(&output.stdout, &session, &mut meanings);
         below_zero += String::from_utf8_lossy(&output.stdout).matches(": wet -").count();
     }
     assert!(below_zero >= 100, "{below_zero} readings below zero");
-    let mut numbers: Vec<&str> = meanings.keys().map(String::as_str).collect();
-    numbers.sort_by_key(|number| number.len());
-    let mut texts: Vec<&String> = meanings.values().collect();
-    texts.sort();
-    texts.dedup();
-    assert_eq!((numbers.len(), texts.len()), (11, 11), "{numbers:?}");
+    let met: BTreeSet<(i64, u8)> = meanings.keys().copied().collect();
+    let numbers = (1..=11).filter(|number| *number != 8).map(|number| (number, 0));
+    assert_eq!(met, numbers.chain((1..=4).map(|ground| (8, ground))).collect());
+    let texts: BTreeSet<&String> = meanings.values().collect();
+    assert_eq!(texts.len(), met.len(), "{texts:?}");
+}
+
+/// The example's words for each ground: the limit of document 01, and what to turn.
+const ADVICE: [&str; 4] = [
+    "the signal is above 150,000,000: set zero and span again, look at the reference cylinder, \
+     or thin the gas",
+    "the signal is not below the sheet's K: look whether this is the right sheet, set zero and \
+     span again, or thin the gas",
+    "the signal at standard pressure is above 100,000,000: look at pressure and vapour pressure, \
+     or thin the gas",
+    "more than 3,000 umol/mol: thin the gas; if it has less, look at sheet, span and temperature",
+];
+
+/// Sessions whose grounds were worked out by hand: the whole line of each sample that is over range, and
+/// no such words in any other.
+#[test]
+fn readings_over_range() {
+    let (program, path) = (readings("over-range"), scratch("over-range.session"));
+    let mut met = BTreeSet::new();
+    for owed in grounds::by_hand::owed_grounds() {
+        fs::write(&path, owed.session.to_bytes()).expect("a written file");
+        let output = run(&program, &[&path], None);
+        assert_eq!((output.status.code(), output.stderr.is_empty()), (Some(0), true));
+        let printed = String::from_utf8(output.stdout).expect("a text");
+        let over: Vec<&str> = printed.lines().filter(|line| line.contains("over range")).collect();
+        let events = (1..).zip(&owed.grounds).filter(|(_, ground)| **ground != 0);
+        let lines = events.map(|(ordinal, ground)| {
+            met.insert(*ground);
+            format!("{ordinal}: refused 8, over range: {}", ADVICE[usize::from(*ground) - 1])
+        });
+        assert_eq!(over, lines.collect::<Vec<String>>(), "{}", owed.name);
+        let advised = ADVICE.iter().map(|words| printed.matches(words).count()).sum::<usize>();
+        assert_eq!(advised, over.len(), "{}", owed.name);
+    }
+    assert_eq!(met, BTreeSet::from([1, 2, 3, 4]));
 }
 
 /// Asserts an exit status, no reading, and a message that holds some words.
@@ -414,7 +523,7 @@ fn readings_of_what_is_no_session() {
 }
 
 /// What include/irga.h says of the stack, over the lesson and sessions of every profile: run, read
-/// as lines and as a page, and written again from their records.
+/// as lines, as a page and for its grounds, and written again from their records.
 #[test]
 fn a_call_takes_less_stack_than_the_header_says() {
     let source = fs::read_to_string(repository().join("tests/c/stack.c"));
@@ -431,13 +540,14 @@ fn a_call_takes_less_stack_than_the_header_says() {
     let output = run(&program, &words, None);
     let most = String::from_utf8(output.stdout).expect("a text");
     let most: Vec<usize> = most.lines().map(|line| line.parse().expect("bytes")).collect();
-    println!("stack of run, lines, page, write and a word, and files written: {most:?}");
-    let &[run, lines, page, write, word, made] = &most[..] else {
-        panic!("five calls were made");
+    println!("stack of run, lines, page, grounds, write and a word, and files written: {most:?}");
+    let &[run, lines, page, grounds, write, word, made] = &most[..] else {
+        panic!("six calls were made");
     };
     // A search of 28 halvings, each with a frame, cannot take less than 2,000 bytes. A writer
     // searches nothing; the lesson and other sessions were written, to the last event.
-    assert!([run, lines, page].iter().all(|taken| (2_000..10_000).contains(taken)), "{most:?}");
+    let searching = [run, lines, page, grounds];
+    assert!(searching.iter().all(|taken| (2_000..10_000).contains(taken)), "{most:?}");
     assert!([write, word].iter().all(|taken| (1..10_000).contains(taken)), "{most:?}");
     assert!(made > 10, "{most:?}");
 }

@@ -1,4 +1,4 @@
-//! The proved library's eight functions beside this implementation: every status, every
+//! The proved library's nine functions beside this implementation: every status, every
 //! length and every byte of a lent output, every double, every word. The archive's folder is named by
 //! IRGA_LIBRARY when the tests are built.
 
@@ -7,8 +7,9 @@ use std::thread;
 
 use irga_tests::engine::Answer;
 use irga_tests::file::{self, Outcome, Session, LINE_ROOM, RECORD_BYTES};
+use irga_tests::grounds;
 use irga_tests::harness::recorders::every_word;
-use irga_tests::harness::{check_page, Campaign, Count};
+use irga_tests::harness::{check_grounds, check_page, Campaign, Count};
 use irga_tests::hostile::{self, OwedPlan};
 use irga_tests::lesson;
 use irga_tests::library;
@@ -99,9 +100,10 @@ fn assert_same_at_each_length(file: &[u8]) {
         let enough = room * events;
         [0, enough.saturating_sub(1), enough, enough + 1, enough + 1_000]
     };
-    let functions: [(&str, usize, Run, Run); 2] = [
+    let functions: [(&str, usize, Run, Run); 3] = [
         ("run", RECORD_BYTES, file::run, library::run),
         ("lines", LINE_ROOM, file::lines, library::lines),
+        ("grounds", 1, grounds::grounds, library::grounds),
     ];
     for (name, room, ours, theirs) in functions {
         for length in lengths(room) {
@@ -398,6 +400,37 @@ fn pages_of_hostile_files() {
                 assert_same_page(&file, every, length);
             }
         }
+    }
+}
+
+/// Invented sessions, and such that aim at the limits of refusal 8, each in two buffers.
+#[test]
+fn grounds_are_the_same_bytes() {
+    let campaign = campaign(0x6278);
+    let met = campaign.against_grounds(&mut library::grounds);
+    let met = met.unwrap_or_else(|why| panic!("{why}"));
+    println!("{met}");
+    let rare = met.rarer_than(campaign.sessions / 100);
+    assert!(rare.is_empty(), "{rare:?}");
+}
+
+#[test]
+fn grounds_worked_out_by_hand() {
+    for owed in grounds::by_hand::owed_grounds() {
+        assert_eq!(check_grounds(&owed, &mut library::grounds), Ok(()));
+    }
+}
+
+/// As many events as a file may have: the length that include/irga.h has for it, a byte less and a
+/// byte more.
+#[test]
+fn the_most_grounds() {
+    let file = lesson::longest().to_bytes();
+    for (length, status, written) in [(2_699, 13, 0), (2_700, 0, 2_700), (2_701, 0, 2_700)] {
+        let outcome = library::grounds(&file, &mut vec![0xA5; length]);
+        assert_eq!(outcome, Outcome { status, written });
+        let theirs = |out: &mut [u8]| library::grounds(&file, out);
+        assert_same("grounds", length, |out| grounds::grounds(&file, out), theirs);
     }
 }
 

@@ -4,6 +4,7 @@
 
 use std::path::Path;
 
+use irga_tests::bench;
 use irga_tests::engine::{Answer, Entry, Event, Mode, SheetRecord, State};
 use irga_tests::file::{EventRecord, Outcome, Session};
 use irga_tests::grounds::{self, by_hand, ground, passed, Ground, Sample};
@@ -118,6 +119,33 @@ fn what_document_02_says_of_every_sample() {
     assert!(named.iter().flatten().all(|count| *count >= 500), "{named:?}");
 }
 
+/// Document 02's R-7: at the stored P and T what is stored counts, and else what a search finds. On the
+/// bench against 1,000,000,000, V 140,000,000 is read at 152,000,000 with R 40,000,000, which a search
+/// finds, and hardly lower with the R of a pressure or warmth one unit off; with R 0 it is read at
+/// 140,000,000, and in absolute mode too.
+#[test]
+fn what_is_stored_counts_at_its_p_and_t() {
+    let sheet = bench::sheet().accepted();
+    let mode = Mode::Reference { cylinder: 1_000_000_000, e: 0 };
+    let against = State { sheet, mode, ..State::fresh() };
+    let absolute = State { mode: Mode::Absolute, ..against };
+    let altered = |found| Some(Finding { p: 101_300, t: 29_815, found });
+    let at = |p, t| Entry::Known(Event::Sample { raw: 140_000_000, p, t, e: 0 });
+    for (state, stored, entry, named) in [
+        (against, None, at(101_300, 29_815), Ground::Signal),
+        (against, altered(Some(40_000_000)), at(101_300, 29_815), Ground::Signal),
+        (against, altered(Some(0)), at(101_300, 29_815), Ground::Reduced),
+        (against, altered(Some(0)), at(101_299, 29_815), Ground::Signal),
+        (against, altered(Some(0)), at(101_300, 29_814), Ground::Signal),
+        (against, altered(None), at(101_300, 29_815), Ground::None),
+        (against, altered(None), at(101_299, 29_815), Ground::Signal),
+        (absolute, altered(Some(40_000_000)), at(101_300, 29_815), Ground::Reduced),
+        (absolute, altered(None), at(101_300, 29_815), Ground::Reduced),
+    ] {
+        assert_eq!(ground(&state, stored, &entry), named, "{stored:?} {entry:?}");
+    }
+}
+
 /// What a wrong tool is told of an event.
 struct Met {
     state: State,
@@ -179,11 +207,13 @@ impl Met {
     }
 }
 
+type Tool = dyn FnMut(&[u8], &mut [u8]) -> Outcome;
+
 /// A tool that is wrong in one thing.
 struct Wrong {
     what: &'static str,
     says: &'static str,
-    tool: Box<dyn FnMut(&[u8], &mut [u8]) -> Outcome>,
+    tool: Box<Tool>,
 }
 
 const OUTCOME: &str = ": expected Outcome";
@@ -233,6 +263,11 @@ fn wrong_order(what: &'static str, order: [u8; 4]) -> Wrong {
     })
 }
 
+/// Another number in the place of one.
+fn wrong_number(what: &'static str, right: u8, named: u8) -> Wrong {
+    wrong_byte(what, move |met| Some(met.right()).filter(|it| *it != right).unwrap_or(named))
+}
+
 /// A ground where the sample was refused with another number.
 fn wrong_refusal(what: &'static str, refusal: u8, named: u8) -> Wrong {
     wrong_byte(what, move |met| {
@@ -251,18 +286,9 @@ fn wrong_choices() -> Vec<Wrong> {
         wrong_order("2 and 3 exchanged in their order", [1, 3, 2, 4]),
         wrong_order("3 and 4 exchanged in their order", [1, 2, 4, 3]),
         wrong_order("the last that holds", [4, 3, 2, 1]),
-        wrong_byte(
-            "the fourth for the third",
-            |met| if met.right() == 3 { 4 } else { met.right() },
-        ),
-        wrong_byte(
-            "the third for the fourth",
-            |met| if met.right() == 4 { 3 } else { met.right() },
-        ),
-        wrong_byte(
-            "the first for the second",
-            |met| if met.right() == 2 { 1 } else { met.right() },
-        ),
+        wrong_number("the fourth for the third", 3, 4),
+        wrong_number("the third for the fourth", 4, 3),
+        wrong_number("the first for the second", 2, 1),
         wrong_byte("numbers from 0", |met| met.right().saturating_sub(1)),
         wrong_byte("the refusal's number", |met| if met.right() > 0 { 8 } else { 0 }),
         wrong_byte("always the same", |met| met.right().min(1)),

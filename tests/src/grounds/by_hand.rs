@@ -194,8 +194,9 @@ fn reduced() -> Owed {
 
 /// The wet value is 100 times the signal, and 3,000,000,000 is not above its limit; a hundredth of a
 /// kelvin more makes it 3,000,100,620. With e 1,000 f is 2,983,213,900 and g 3,000,000,000 again, and the
-/// dry value above that; one unit of signal more is 100 more. K is named before it. A signal of 10^8
-/// with A1 300,000,000 is at both last limits, and the next one beyond both.
+/// dry value above that; one unit of signal more is 100 more. Against 1,000,000,000 R is 10,000,000, a
+/// fortieth of K: V 20,512,821, whose share is 512,820.5, is read at 30,000,000. K is named before the wet
+/// value. A signal of 10^8 with A1 300,000,000 is at both last limits, and the next one beyond both.
 fn wet() -> [Owed; 3] {
     let [warm, damp] = [[101_300, 29_816, 0], [101_300, 29_815, 1_000]];
     let steep = [
@@ -206,6 +207,9 @@ fn wet() -> [Owed; 3] {
         over(sample_in(30_000_001, damp), 4),
         over(sample(100_000_000), 4),
         over(sample(100_000_001), 3),
+        accepted(Event::Reference { cylinder: 1_000_000_000, e: 0 }),
+        accepted(sample(20_512_821)),
+        over(sample(20_512_822), 4),
     ];
     let at_k = [accepted(sample(30_000_000)), over(sample(30_000_001), 2)];
     let both = [accepted(sample(100_000_000)), over(sample(100_000_001), 3)];

@@ -95,10 +95,11 @@ impl Tally {
                 {
                     self.meet(MALFORMED.to_string());
                 }
-                (Entry::Known(Event::Span { raw, p, t, e, .. }), _) if answer.refusal == 5 => {
-                    if is_over(&state, stored, &Event::Sample { raw, p, t, e }) {
-                        self.meet(SPAN.to_string());
-                    }
+                (Entry::Known(Event::Span { raw, p, t, e, .. }), _)
+                    if answer.refusal == 5
+                        && is_over(&state, stored, &Event::Sample { raw, p, t, e }) =>
+                {
+                    self.meet(SPAN.to_string());
                 }
                 _ => {}
             }

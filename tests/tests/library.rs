@@ -425,7 +425,7 @@ fn grounds_worked_out_by_hand() {
 /// byte more.
 #[test]
 fn the_most_grounds() {
-    let file = lesson::longest().to_bytes();
+    let file = grounds::by_hand::longest().session.to_bytes();
     for (length, status, written) in [(2_699, 13, 0), (2_700, 0, 2_700), (2_701, 0, 2_700)] {
         let outcome = library::grounds(&file, &mut vec![0xA5; length]);
         assert_eq!(outcome, Outcome { status, written });

@@ -3,7 +3,7 @@
 
 use crate::bench;
 use crate::engine::{Event, SheetRecord};
-use crate::file::{EventRecord, Session};
+use crate::file::{EventRecord, Session, EVENTS_LIMIT};
 
 /// A session with the refusal and the ground that are owed to each of its events.
 #[derive(Clone, Debug)]
@@ -412,6 +412,18 @@ fn other_kinds() -> Owed {
     )
 }
 
+/// As many events as a file may have: the bench sheet's, loaded again and again.
+pub fn longest() -> Owed {
+    let Owed { mut session, mut refusals, mut grounds, .. } = bench_sheet();
+    session.events = session.events.repeat(EVENTS_LIMIT);
+    session.events.truncate(EVENTS_LIMIT);
+    for bytes in [&mut refusals, &mut grounds] {
+        *bytes = bytes.repeat(EVENTS_LIMIT);
+        bytes.truncate(EVENTS_LIMIT);
+    }
+    Owed { name: "as many as there can be", session, refusals, grounds }
+}
+
 /// All of them, and a session without an event.
 pub fn owed_grounds() -> Vec<Owed> {
     let nothing = Owed {
@@ -424,6 +436,6 @@ pub fn owed_grounds() -> Vec<Owed> {
     all.extend(around_k().into_iter().chain(high_k()).chain(wet()));
     all.extend([bench_reference(), narrow_reference(), damp_reference(), damp_sample()]);
     all.extend([moving_room(), no_signal_in_one_room(), two_sheets()]);
-    all.extend([refused_before(), other_kinds(), nothing]);
+    all.extend([refused_before(), other_kinds(), longest(), nothing]);
     all
 }

@@ -1,11 +1,12 @@
-// R-7: records whose stored finding was altered, handed to `step`. Document 01's bench sheet and cylinder, 1,000,000,000 with er 0, unless said; samples
-// with e 0 unless said.
+// R-7: records whose stored finding was altered, handed to `step` and, for R-9, to `ground`. Document 01's bench sheet and cylinder, 1,000,000,000 with er
+// 0, unless said; samples with e 0 unless said.
 //
 // What `stdout` holds, and where it comes from. First, for two values of K, what `step` answers to a sample at the stored P and T (refusal, R,
-// wet, dry), and beside it what the rules give with that R, by the reading alone. Then what an event does to a stored 30,000,000 (under K 10,000,000 a stored 3,000,000), which no search
-// finds there: its answer, what stands stored after it, and the answer of a sample at that P and T. All of it was computed by the independent
-// implementation in tests/, which works from documents 01 and 02 alone, and a test holds the file to it; but for the last line, a record that the
-// engine does not work with, whose refusal 1 is ours.
+// wet, dry), beside it what the rules give with that R, by the reading alone, and the number of the ground that `ground` names, 0 for none. Then
+// what an event does to a stored 30,000,000 (under K 10,000,000 a stored 3,000,000), which no search finds there: its answer, what stands stored
+// after it, and the answer of a sample at that P and T. All of it was computed by the independent implementation in tests/, which works from
+// documents 01 and 02 alone, and a test holds the file to it; but for the last line, a record that the engine does not work with, whose refusal 1
+// is ours.
 ghost use mathlib.Core.Path.{_≡_};
 ghost use mathlib.Core.Bool.{true};
 ghost use Prim.Native.Nat.{_≤_};
@@ -15,6 +16,8 @@ ghost use Rattle.sampling.specs.Sample.{modeWithin};
 use counting::Integration;
 use curve::Sheet;
 use engine::step;
+use grounds::naming::ground;
+use grounds::number_of;
 use libc::STDOUT_FILENO;
 use reference::Found;
 use rounding::signed::below_zero;
@@ -61,7 +64,10 @@ const SHEETS: [u8; 24] = [
 ];
 
 fn main() {
-    io::write_all(STDOUT_FILENO, b"K R raw | step | the rules with that R\n");
+    io::write_all(
+        STDOUT_FILENO,
+        b"K R raw | step | the rules with that R | ground\n",
+    );
     findings(200000000);
     findings(10000000);
     io::write_all(
@@ -85,6 +91,7 @@ fn findings(k: u64)
     rows(k, Found::At(39999999));
     rows(k, Found::At(40000000));
     rows(k, Found::At(40000001));
+    rows(k, Found::At(80000000));
     rows(k, Found::At(149999999));
     rows(k, Found::At(150000000));
     rows(k, Found::Nothing);
@@ -99,13 +106,14 @@ fn rows(k: u64, found: Found)
     row(k, found, 10500000);
 }
 
-// What `step` answers, and what the rules give.
+// What `step` answers, what the rules give, and the ground.
 fn row(k: u64, found: Found, raw: i32)
     requires { ⌜ (10000000 ≤ k) × (k ≤ 400000000) × (foundValue found ≤ 150000000) ⌝ }
 {
     print_case(k, found, raw);
     print_step(k, found, measured(raw, 101300, 29815));
     print_rules(k, found, measured(raw, 101300, 29815));
+    print_ground(k, found, measured(raw, 101300, 29815));
 }
 
 fn print_step(k: u64, found: Found, at: Measurement)
@@ -126,6 +134,15 @@ fn print_rules(k: u64, found: Found, at: Measurement)
 {
     let sampled = sample_on(bench_sheet(k), 0, 1000000, reference_mode(0), at, found);
     print_sampled(sampled);
+    io::write_all(STDOUT_FILENO, b" | ");
+}
+
+// R-9: the ground of that sample at that record, 0 for none.
+fn print_ground(k: u64, found: Found, at: Measurement)
+    requires { ⌜ (10000000 ≤ k) × (k ≤ 400000000) × (foundValue found ≤ 150000000) ⌝ }
+{
+    let named = ground(holding(k, found, reference_mode(0)), at);
+    io::print_decimal(STDOUT_FILENO, number_of(named) as u64);
     io::write_all(STDOUT_FILENO, b"\n");
 }
 

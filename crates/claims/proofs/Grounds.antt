@@ -3,11 +3,11 @@
 use Prim.Native.Nat.{ℕ, zero, suc, _+_, _≤_}
 use native.Mathlib.Nat.{zero-add}
 use native.Mathlib.Omega.{arith}
-use mathlib.Core.Bool.{Bool, true, false}
+use mathlib.Core.Bool.{true, false}
 use mathlib.Core.List.{List, [], _∷_, _++_}
 use mathlib.Core.Option.{some, Option·some-injective}
 use mathlib.Core.Path.{_≡_, refl, sym, ap, subst, _∙_}
-use borrow.Author.Tests.{eqb-true, eqb-false, eq-eqb, ne-eqb}
+use borrow.Author.Tests.{eq-eqb, ne-eqb}
 use lib.Dec.{T, eqb}
 use lib.ListN.{length, drop, getElem?}
 use lib.Seq.{drop-at}
@@ -26,7 +26,7 @@ use Rattle.session.specs.Transcript.{transcriptOf}
 use Rattle.answers.specs.Run.{emittedOf, statusAs, FillsAs}
 use Rattle.answers.proofs.Outcome.{status-0, status-12, status-13}
 use Rattle.claims.specs.Claim.{LineIs}
-use Rattle.claims.specs.Grounds.{GroundGiven, ByteGiven, Grounded, GroundsHold, EveryGrounds}
+use Rattle.claims.specs.Grounds.{GroundGiven, Grounded, EveryGrounds}
 use Rattle.claims.proofs.Claim.{file-lines, every-line-of, kept}
 
 -- ---- the byte of a line

@@ -2,7 +2,7 @@
 -- that is read. Assumes nothing.
 use mathlib.Core.Bool.{Bool, true, false, cond}
 use mathlib.Core.List.{List}
-use mathlib.Core.Path.{_≡_, refl, sym, ap, subst, _∙_}
+use mathlib.Core.Path.{_≡_, refl, sym, ap, subst}
 use Prim.Native.Nat.{ℕ, _≤_}
 use native.Mathlib.Omega.{arith}
 use borrow.Author.Tests.{eqb-true}
@@ -26,7 +26,6 @@ use Rattle.rules.specs.declared.Loaded.{Loaded}
 use Rattle.rules.specs.declared.State.{State}
 use Rattle.rules.specs.declared.Event.{Event}
 use Rattle.rules.specs.declared.Entry.{Entry}
-use Rattle.rules.specs.declared.Stepped.{Stepped}
 use Rattle.rules.specs.declared.Answer.{Answer}
 use Rattle.rules.specs.Answer.{refusalOf}
 use Rattle.rules.specs.Rules.{refused}
@@ -158,14 +157,14 @@ refused-8 x h = go x (eqb-true _ 8 (rw (answer-refusal x) at h))
     go (Sampled.Value r wet dry) e = absurd (omega arith)
     go (Sampled.Refused number) e = ap Sampled.Refused e
 
--- what it tells of the state that the step leaves: what is set there is within its limits, so is the finding that stands stored, with which the
--- sample is refused with 8 there too; and its ground there is the one at the state before
+-- what it tells of the state that the step leaves: what is set there is within its limits; with the finding that stands stored there the sample is
+-- refused with 8 too, and that finding is within its limits; and its ground there is the one at the state before
 pub record Over (st : State) (at : Measurement) (after : State) : Type 0 where
   pub loaded : loadedWithin (after .loaded) ≡ true
   pub q : natAbs (after .q) ≤ 20000000
   pub s : after .s ≤ 2000000
-  pub finding : foundValue (findingIn (after .stored)) ≤ 150000000
   pub refuses : sampledOf after at (findingIn (after .stored)) ≡ Sampled.Refused 8
+  pub finding : foundValue (findingIn (after .stored)) ≤ 150000000
   pub ground : groundUnder (after .loaded) (after .q) (after .s) (after .mode) at (findingIn (after .stored)) ≡ groundOf st at
 
 pub over : (sheets : List ℕ) (st : State) (at : Measurement) → eqb (refusalOf (stepOf sheets st (sampled at) .answer)) 8 ≡ true
@@ -181,8 +180,8 @@ over sheets st at = go (workable st) refl
           loaded = o .loaded;
           q = o .q;
           s = o .s;
-          finding = stored-size (storing st at .stored) (storing-within st at (o .stored));
           refuses = refused-8 (given st at) h;
+          finding = stored-size (storing st at .stored) (storing-within st at (o .stored));
           ground = rw e;
         }
     go false e h = absurd (subst T (sym h) tt)

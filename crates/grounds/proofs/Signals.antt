@@ -1,7 +1,7 @@
--- The first ground of a signal beside its absolute reading: one is named exactly where the reading is over range, and it says what the tests say;
+-- The first ground of a signal beside its absolute reading: it says what the tests say, and one is named exactly where the reading is over range;
 -- where a reading is over range and the first three tests fail, the last holds. Assumes nothing.
 use mathlib.Core.Bool.{Bool, true, false, cond}
-use mathlib.Core.Path.{_≡_, refl, sym, _∙_}
+use mathlib.Core.Path.{_≡_, refl}
 use Prim.Native.Nat.{ℕ}
 use native.Mathlib.Omega.{arith}
 use lib.Dec.{eqb}
@@ -34,18 +34,6 @@ module _ (s : Sheet) (v : ℤ) (a : Air) where
   first high at-k reduced wet =
       cond high Ground.SignalHigh (cond at-k Ground.SignalAtK (cond reduced Ground.ReducedHigh (cond wet Ground.WetHigh Ground.Nothing)))
 
-  pub named-at : isNamed (groundAt s v a) ≡ eqb (readingRefusal (absoluteOf s v a)) 8
-  unfolding firstGround absoluteOf
-  named-at = go (signalLow v) (signalHigh v) (signalAtK s v) (reducedHigh z) (wetHigh c)
-    where
-      go : (l h k r w : Bool) → isNamed (cond l Ground.Nothing (first h k r w)) ≡ eqb (readingRefusal (reads l h k r w)) 8
-      go true h k r w = refl
-      go false true k r w = refl
-      go false false true r w = refl
-      go false false false true w = refl
-      go false false false false true = refl
-      go false false false false false = refl
-
   passed-first : Passed s v a (firstGround s v a)
   unfolding firstGround
   passed-first = go (signalHigh v) (signalAtK s v) (reducedHigh z) (wetHigh c) refl refl refl refl
@@ -64,6 +52,18 @@ module _ (s : Sheet) (v : ℤ) (a : Air) where
       go : (l : Bool) → Passed s v a (cond l Ground.Nothing (firstGround s v a))
       go true = tt
       go false = passed-first
+
+  pub named-at : isNamed (groundAt s v a) ≡ eqb (readingRefusal (absoluteOf s v a)) 8
+  unfolding firstGround absoluteOf
+  named-at = go (signalLow v) (signalHigh v) (signalAtK s v) (reducedHigh z) (wetHigh c)
+    where
+      go : (l h k r w : Bool) → isNamed (cond l Ground.Nothing (first h k r w)) ≡ eqb (readingRefusal (reads l h k r w)) 8
+      go true h k r w = refl
+      go false true k r w = refl
+      go false false true r w = refl
+      go false false false true w = refl
+      go false false false false true = refl
+      go false false false false false = refl
 
   -- ---- what the tests say where the reading is over range
   module _ (e : absoluteOf s v a ≡ OverRange) where

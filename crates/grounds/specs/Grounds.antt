@@ -1,7 +1,7 @@
 -- R-9, grounds of over range: which of the four grounds of refusal 8 is the first that holds of a sample at a state. The four tests are those of
 -- the absolute reading (`signalHigh` to `wetHigh`). Assumes nothing.
 use Prim.Native.Nat.{ℕ}
-use mathlib.Core.Bool.{Bool, true, false, cond}
+use mathlib.Core.Bool.{cond}
 use mathlib.Core.List.{List}
 use mathlib.Core.Path.{_≡_}
 use lib.Dec.{eqb}

@@ -87,7 +87,7 @@ fn over_range(a: Answer) -> bool
 
 // The ground of a sample that is refused with 8, with what it went by.
 fn named(st: State, at: Measurement, finding: Found) -> Ground
-    requires { ⌜ (loadedWithin (st .loaded) ≡ true) × (natAbs (st .q) ≤ 20000000) × (st .s ≤ 2000000) × (foundValue finding ≤ 150000000) × (sampledOf st at finding ≡ Sampled.Refused 8) ⌝ }
+    requires { ⌜ (loadedWithin (st .loaded) ≡ true) × (natAbs (st .q) ≤ 20000000) × (st .s ≤ 2000000) × (sampledOf st at finding ≡ Sampled.Refused 8) × (foundValue finding ≤ 150000000) ⌝ }
     ensures { λ r. ⌜ r ≡ groundUnder (st .loaded) (st .q) (st .s) (st .mode) at finding ⌝ }
 {
     let loaded = st.loaded;

@@ -59,9 +59,9 @@ pub extern "C" fn irga_page(file: &[u8], every: u32, out: &mut [u8], written: &m
 pub extern "C" fn irga_grounds(file: &[u8], out: &mut [u8], written: &mut usize) -> u8
     ensures { λ r. ⌜ FillsAs Form.Grounds (now (file .entry)) (now (out .entry)) r (now (written .exit)) (now (out .exit)) ⌝ }
 {
-    let made = fill(Form::Grounds, file, out);
-    *written = made.written;
-    made.status
+    let named = fill(Form::Grounds, file, out);
+    *written = named.written;
+    named.status
 }
 
 // The answer to a sample, from its 24 bytes: 0 with wet, dry and signal, or a refusal, which leaves all three as they were.

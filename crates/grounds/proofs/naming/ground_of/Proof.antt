@@ -1,8 +1,8 @@
 -- `grounds::naming::ground_of` meets its contract: without an answer of 8 there is no ground, an entry that is no sample has none, and a sample that is
 -- refused with 8 has what `named` finds with the finding that it left stored. Assumes nothing.
-use mathlib.Core.Bool.{true, false}
+use mathlib.Core.Bool.{true}
 use mathlib.Core.List.{List, [], _∷_}
-use mathlib.Core.Path.{_≡_, refl, sym, subst, _∙_}
+use mathlib.Core.Path.{_≡_, refl, sym, _∙_}
 use Prim.Native.Nat.{ℕ}
 use types.Run.{OneOf, miss}
 use denote.Enum.Declared.{tagOf}
@@ -70,7 +70,7 @@ told c =
 named-requires : tie.Need-named-requires
 named-requires c κs =
     let o = told c in
-    (o .loaded, o .q, o .s, rw (c .finding-in .ensures) (o .finding), rw (c .finding-in .ensures) (o .refuses))
+    (o .loaded, o .q, o .s, rw (c .finding-in .ensures) (o .refuses), rw (c .finding-in .ensures) (o .finding))
 
 returns-4 : tie.Need-returns-4
 returns-4 c =

@@ -28,7 +28,7 @@ sheet-is-ok : (c : tie.After-loaded) → SheetOk (sheet1 c)
 sheet-is-ok c = sheet-in (start1 c .pre .0) (c .loaded .given .1)
 
 over : (c : tie.After-loaded) → let s = start1 c .args in OverOn (sheet1 c) (s .st .q) (s .st .s) (s .at) (s .st .mode) (s .finding)
-over c = over-under _ _ _ (c .loaded .given .1) (start1 c .pre .4)
+over c = over-under _ _ _ (c .loaded .given .1) (start1 c .pre .3)
 
 input : (c : tie.After-loaded) → InputOk (start1 c .args .at)
 input c =
@@ -67,7 +67,7 @@ signal-requires c κs =
     let s = start1 l in
     let f : SFits w64 (c .from-raw .result) = search needs in
     simp toZ-ofZ
-    (sheet-is-ok l, s .pre .3, rw (signal-is c) (signal-size (s .args .at .raw) (s .args .st .q) (s .args .st .s) (input l .raw) (s .pre .1) (s .pre .2)))
+    (sheet-is-ok l, s .pre .4, rw (signal-is c) (signal-size (s .args .at .raw) (s .args .st .q) (s .args .st .s) (input l .raw) (s .pre .1) (s .pre .2)))
 
 read-is : (c : tie.After-signal) → let l = loaded3 (c .before) in let s = start1 l .args in
     c .signal .result ≡ signalRead (sheet1 l) (s .st .mode) (s .finding) (signalOf (s .at .raw) (s .st .q) (s .st .s))

@@ -164,9 +164,9 @@ enum irga_refusal {
 
 /*
  * What a sample that is answered with IRGA_OVER_RANGE is over range by: the first of these four
- * limits, in this order, that it passes. It may pass later ones too. The signal is that of the
- * sample as read against nothing: with zero and span and, against a reference, with the
- * reference signal. P and e are the sample's.
+ * limits, in this order, that it passes. It may pass later ones too. The signal is the one that
+ * is read: from raw, zero and span and, against a reference, with the reference signal. P and e
+ * are the sample's.
  */
 enum irga_ground {
     IRGA_GROUND_NONE = 0,    /* no sample, or one that has another answer */

@@ -1,10 +1,14 @@
-//! A lesson as a session: a leaf in a chamber, read against a reference gas for a minute.
+//! The sessions of examples/. A lesson: a leaf in a chamber, read against a reference gas for a minute.
 //!
 //! The analyser is that of source document 000's Table 3-1. Its converter stands 1,250
 //! units off zero and reads almost one per cent high, which zero and span take out.
 
+use std::error::Error;
+use std::fs;
+use std::path::PathBuf;
+
 use crate::bench;
-use crate::engine::Event;
+use crate::engine::{Event, SheetRecord};
 use crate::file::{EventRecord, Session, EVENTS_LIMIT, SHEETS_LIMIT};
 use crate::plan::Plan;
 
@@ -65,4 +69,39 @@ pub fn desk() -> Plan {
     events.extend([0, 10_000_000, 0].map(sample));
     events.extend([Event::Stop, Event::Area]);
     Plan { sheets, events }
+}
+
+/// Samples that are over range, one by each ground, on document 01's bench sheet, on which the
+/// wet value at V 70,000,000 would be 3,010,000,000; and one that is not. V 80,000,000 at P 60,000 has a
+/// z of 135,066,667. With the zero at −20,000,000 raw 140,000,000 is V 160,000,000. K of the second
+/// sheet is 50,000,000.
+pub fn over_range() -> Session {
+    let sample = |raw, p| Event::Sample { raw, p, t: 29_815, e: 0 };
+    let events = [
+        Event::Load { index: 0 },
+        sample(70_000_000, 101_300),
+        sample(80_000_000, 60_000),
+        Event::Zero { raw: -20_000_000 },
+        sample(140_000_000, 101_300),
+        Event::Load { index: 1 },
+        sample(50_000_000, 101_300),
+        sample(40_000_000, 101_300),
+    ];
+    Session {
+        sheets: vec![bench::sheet(), SheetRecord { k: 50_000_000, ..bench::sheet() }],
+        events: events.iter().map(EventRecord::of).collect(),
+    }
+}
+
+/// Writes a session file for a program of these tests. It is named as the one argument and not by `>`,
+/// which would empty the old one before the program is even built. The bytes go to a file beside it,
+/// which takes its place once they are all there.
+pub fn write_as_named(session: &Session) -> Result<(), Box<dyn Error>> {
+    let words: Vec<_> = std::env::args_os().skip(1).collect();
+    let [word] = words.as_slice() else { return Err("name the one file to write".into()) };
+    let mut beside = word.clone();
+    beside.push(".new");
+    let (path, beside) = (PathBuf::from(word), PathBuf::from(beside));
+    fs::write(&beside, session.to_bytes())?;
+    Ok(fs::rename(beside, path)?)
 }

@@ -459,17 +459,6 @@ fn readings_of_sessions_with_refusals() {
     assert_eq!(texts.len(), met.len(), "{texts:?}");
 }
 
-/// The example's words for each ground: the limit of document 01, and what to turn.
-const ADVICE: [&str; 4] = [
-    "the signal is above 150,000,000: set zero and span again, look at the reference cylinder, \
-     or thin the gas",
-    "the signal is not below the sheet's K: look whether this is the right sheet, set zero and \
-     span again, or thin the gas",
-    "the signal at standard pressure is above 100,000,000: look at pressure and vapour pressure, \
-     or thin the gas",
-    "more than 3,000 umol/mol: thin the gas; if it has less, look at sheet, span and temperature",
-];
-
 /// Sessions whose grounds were worked out by hand: the whole line of each sample that is over range, and
 /// no such words in any other.
 #[test]
@@ -485,10 +474,14 @@ fn readings_over_range() {
         let events = (1..).zip(&owed.grounds).filter(|(_, ground)| **ground != 0);
         let lines = events.map(|(ordinal, ground)| {
             met.insert(*ground);
-            format!("{ordinal}: refused 8, over range: {}", ADVICE[usize::from(*ground) - 1])
+            format!(
+                "{ordinal}: refused 8, over range: {}",
+                grounds::by_hand::ADVICE[usize::from(*ground) - 1]
+            )
         });
         assert_eq!(over, lines.collect::<Vec<String>>(), "{}", owed.name);
-        let advised = ADVICE.iter().map(|words| printed.matches(words).count()).sum::<usize>();
+        let advice = grounds::by_hand::ADVICE;
+        let advised = advice.iter().map(|words| printed.matches(words).count()).sum::<usize>();
         assert_eq!(advised, over.len(), "{}", owed.name);
     }
     assert_eq!(met, BTreeSet::from([1, 2, 3, 4]));

@@ -1,13 +1,14 @@
-//! The lesson in examples/: its file is what the lesson makes, its text what this
-//! implementation prints of it.
+//! The sessions in examples/: the lesson, whose file is what the lesson makes and its text what this
+//! implementation prints of it, and the samples that are over range.
 
 use std::fs;
 use std::path::Path;
 use std::process::Command;
 
-use irga_tests::{file, lesson};
+use irga_tests::{file, grounds, lesson};
 
 const FILE: &[u8] = include_bytes!("../../examples/lesson.session");
+const OVER: &[u8] = include_bytes!("../../examples/over_range.session");
 const TEXT: &str = include_str!("../../examples/lesson.txt");
 
 #[test]
@@ -30,15 +31,31 @@ fn every_event_is_accepted() {
     assert!(area.m == 300 && area.x < 0);
 }
 
-/// The command in README.md names the file, so that it is not emptied before it is made.
+/// Each ground once, and a sample that is accepted.
 #[test]
-fn the_program_writes_the_file_that_is_named() {
-    let path = Path::new(env!("CARGO_TARGET_TMPDIR")).join("lesson.session");
-    let mut program = Command::new(env!("CARGO_BIN_EXE_lesson"));
-    assert!(!program.output().expect("the program starts").status.success());
-    let output = program.arg(&path).output().expect("the program starts");
-    assert!(output.status.success() && output.stdout.is_empty());
-    assert_eq!(fs::read(&path).expect("the file is there"), FILE);
-    let command = "--bin lesson examples/lesson.session`";
-    assert!(include_str!("../../README.md").contains(command));
+fn samples_over_range_by_each_ground() {
+    let session = lesson::over_range();
+    assert_eq!(session.to_bytes(), OVER);
+    let named: Vec<u8> = grounds::of_session(&session).iter().map(|g| g.number()).collect();
+    assert_eq!(named, [0, 4, 3, 0, 1, 0, 2, 0]);
+    let refusals = session.answers().into_iter().map(|answer| answer.refusal);
+    assert_eq!(refusals.collect::<Vec<u8>>(), [0, 8, 8, 0, 8, 0, 8, 0]);
+}
+
+/// The commands in README.md name the file, so that it is not emptied before it is made.
+#[test]
+fn the_programs_write_the_file_that_is_named() {
+    for (program, name, bytes) in [
+        (env!("CARGO_BIN_EXE_lesson"), "lesson", FILE),
+        (env!("CARGO_BIN_EXE_over_range"), "over_range", OVER),
+    ] {
+        let path = Path::new(env!("CARGO_TARGET_TMPDIR")).join(format!("{name}.session"));
+        let mut program = Command::new(program);
+        assert!(!program.output().expect("the program starts").status.success());
+        let output = program.arg(&path).output().expect("the program starts");
+        assert!(output.status.success() && output.stdout.is_empty());
+        assert_eq!(fs::read(&path).expect("the file is there"), bytes);
+        let command = format!("--bin {name} examples/{name}.session`");
+        assert!(include_str!("../../README.md").contains(&command));
+    }
 }

@@ -5,6 +5,8 @@ use irga_tests::bench;
 use irga_tests::engine::{step, Answer, Entry, Event, SheetRecord, State, READINGS_LIMIT};
 use irga_tests::figures::{grouped, in_one_line};
 use irga_tests::file::{self, EventRecord, Session};
+use irga_tests::grounds::by_hand::ADVICE;
+use irga_tests::grounds::{self, GROUNDS};
 use irga_tests::harness::recorders::VALUES_EACH;
 use irga_tests::harness::SESSIONS;
 use irga_tests::hostile;
@@ -101,7 +103,7 @@ fn lengths_in_bytes() {
         format!("| event offset u32, {header} + {record} × sheet count |"),
         format!("{answers} bytes of output are enough for any session, {lines} for its lines,"),
         format!(
-            "{} for its page, and {longest} for any file that is written.",
+            "{events} for its grounds, {} for its page, and {longest} for any file that is written.",
             number(page::LONGEST)
         ),
         format!("shorter than the page, {} × its lines |", page::LINE_BYTES),
@@ -109,7 +111,10 @@ fn lengths_in_bytes() {
         format!("no page is longer than {} bytes", number(page::LONGEST)),
         format!("`irga_write` takes up to {sheets} sheets and {events} events and"),
         format!("than the file to be written, {header} + {record} × sheets + {record} × events |"),
-        format!("shorter than {record} × event count, for the lines {line} × event count |"),
+        format!(
+            "shorter than {record} × event count, for the lines {line} × event count, for the \
+             grounds the event count |"
+        ),
     ] {
         assert_says(&sentence);
     }
@@ -190,6 +195,42 @@ fn the_words_of_the_lesson() {
 }
 
 /// Steps, codes and limits of a chart recorder, and the manual's example.
+/// What the example prints of samples over range, as it is printed, and the four limits.
+#[test]
+fn what_to_turn() {
+    let session = lesson::over_range();
+    let mut printed = String::new();
+    for ((ordinal, answer), ground) in
+        (1..).zip(session.answers()).zip(grounds::of_session(&session))
+    {
+        match (answer.kind, answer.refusal) {
+            (6, 0) => printed.push_str(&format!(
+                "{ordinal}: wet {} umol/mol, dry {} umol/mol\n",
+                micro(answer.x),
+                micro(answer.y)
+            )),
+            (_, 8) => printed.push_str(&format!(
+                "{ordinal}: refused 8, over range: {}\n",
+                ADVICE[usize::from(ground.number()) - 1]
+            )),
+            _ => assert_eq!(answer.refusal, 0),
+        }
+    }
+    assert!(README.contains(&format!("```\n{printed}```\n")), "{printed}");
+    for (ground, words) in GROUNDS.iter().zip([
+        format!("the signal is above {} (15 V) |", number(rules::SIGNAL_LIMIT)),
+        "the signal is at the sheet's K or above it |".to_string(),
+        "z, the signal reduced to the standard pressure and dry air, is above 10^8 (10 V) |"
+            .to_string(),
+        format!(
+            "the wet value would be above {}, which is 3,000 µmol/mol |",
+            number(rules::WET_LIMIT)
+        ),
+    ]) {
+        assert_says(&format!("| ground {} | {words}", ground.number()));
+    }
+}
+
 #[test]
 fn the_recorder_s_numbers() {
     for (kind, name) in [(Kind::Voltage, "voltage"), (Kind::Current, "current")] {
@@ -576,7 +617,9 @@ fn sessions_and_versions_of_the_gate() {
     ));
     assert_says(&format!("and hand it {sessions} plans and {sessions} with faults to write,"));
     let values = number(VALUES_EACH * SESSIONS);
-    assert_says(&format!("and have it pack {values} values for a chart recorder."));
+    assert_says(&format!("and have it pack {values} values for a chart recorder,"));
+    // Each invented session, and one that aims at the limits.
+    assert_says(&format!("and name the grounds of {} sessions.", number(2 * SESSIONS)));
     assert!(GATE.contains(&format!("\nexport IRGA_SESSIONS={SESSIONS}\n")));
     assert_says(&format!("`cargo` (Rust {} or later)", env!("CARGO_PKG_RUST_VERSION")));
 }

@@ -5,6 +5,17 @@ use crate::bench;
 use crate::engine::{Event, SheetRecord};
 use crate::file::{EventRecord, Session, EVENTS_LIMIT};
 
+/// The words of `examples/readings.c` for each ground: the limit of document 01, and what to turn.
+pub const ADVICE: [&str; 4] = [
+    "the signal is above 150,000,000: set zero and span again, look at the reference cylinder, \
+     or thin the gas",
+    "the signal is not below the sheet's K: look whether this is the right sheet, set zero and \
+     span again, or thin the gas",
+    "the signal at standard pressure is above 100,000,000: look at pressure and vapour pressure, \
+     or thin the gas",
+    "more than 3,000 umol/mol: thin the gas; if it has less, look at sheet, span and temperature",
+];
+
 /// A session with the refusal and the ground that are owed to each of its events.
 #[derive(Clone, Debug)]
 pub struct Owed {

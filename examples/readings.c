@@ -45,14 +45,18 @@ static const char *meaning(unsigned refusal) {
 
 /* Of a sample that is over range: the limit that it passes, and where to look. */
 static const char *const advice[] = {
-    [IRGA_GROUND_SIGNAL] = "the signal is above 150,000,000: set zero and span again, look at "
-                           "the reference cylinder, or thin the gas",
-    [IRGA_GROUND_K] = "the signal is not below the sheet's K: look whether this is the right "
-                      "sheet, set zero and span again, or thin the gas",
-    [IRGA_GROUND_REDUCED] = "the signal at standard pressure is above 100,000,000: look at "
-                            "pressure and vapour pressure, or thin the gas",
-    [IRGA_GROUND_WET] = "more than 3,000 umol/mol: thin the gas; if it has less, look at sheet, "
-                        "span and temperature",
+    [IRGA_GROUND_SIGNAL] = "the signal is above 150,000,000 (15 V): set zero and span again "
+                           "(span in absolute mode), against a reference look at its cylinder, "
+                           "or dilute the gas",
+    [IRGA_GROUND_K] = "the signal is not below the sheet's K: compare K with the printed sheet, "
+                      "set zero and span again (span in absolute mode), or dilute the gas",
+    [IRGA_GROUND_REDUCED] = "the signal at standard pressure is above 100,000,000 (10 V): look "
+                            "at pressure and vapour pressure, set zero and span again (span in "
+                            "absolute mode), against a reference look at its cylinder, or "
+                            "dilute the gas",
+    [IRGA_GROUND_WET] = "more than 3,000 umol/mol: dilute the gas; if it has less, look at "
+                        "pressure, temperature and sheet, set zero and span again (span in "
+                        "absolute mode), against a reference look at its cylinder",
 };
 
 static const char *what_to_turn(unsigned ground) {
@@ -63,7 +67,7 @@ static const char *what_to_turn(unsigned ground) {
 static void print_refusal(unsigned long ordinal, unsigned refusal, unsigned ground) {
     printf("%lu: refused %u, %s", ordinal, refusal, meaning(refusal));
     if (ground != IRGA_GROUND_NONE)
-        printf(": %s", what_to_turn(ground));
+        printf(", ground %u: %s", ground, what_to_turn(ground));
     printf("\n");
 }
 

@@ -166,15 +166,15 @@ enum irga_refusal {
  * What a sample that is answered with IRGA_OVER_RANGE is over range by: the first of these four
  * limits, in this order, that it passes. It may pass later ones too. The signal is the one that
  * is read: from raw, zero and span and, against a reference, with the reference signal. P and e
- * are the sample's.
+ * are the sample's. README.md says what to turn, under "Over range: what to turn".
  */
 enum irga_ground {
     IRGA_GROUND_NONE = 0,    /* no sample, or one that has another answer */
     IRGA_GROUND_SIGNAL = 1,  /* the signal is above 150,000,000, which is 15 V */
     IRGA_GROUND_K = 2,       /* the signal is at the sheet's K or above it */
-    IRGA_GROUND_REDUCED = 3, /* the signal reduced to the standard pressure, rounded
-                                10,130,000 times the signal by 100 P + 57 e, is above
-                                100,000,000 */
+    IRGA_GROUND_REDUCED = 3, /* the signal reduced to standard pressure and dry air, 10,130,000
+                                times the signal divided by 100 P + 57 e, rounded, is above
+                                100,000,000, which is 10 V */
     IRGA_GROUND_WET = 4      /* the wet value would be above 3,000,000,000, which is
                                 3,000 umol/mol */
 };
@@ -248,8 +248,9 @@ uint8_t irga_page(const uint8_t *file, size_t file_length, uint32_t header_every
                   uint8_t *out, size_t out_length, size_t *written);
 
 /*
- * Which limit each sample of the same run passes that is over range, so that it is known what to
- * turn: one byte for each event, an enum irga_ground.
+ * For each sample of the same run that is over range, the limit that it passes, so that it is
+ * known what to turn: one byte for each event, an enum irga_ground. The session is run for it,
+ * as by irga_run.
  *
  * file, file_length   the session file
  * out, out_length     where the grounds go; the event count is enough, and IRGA_GROUNDS_MAX

@@ -139,6 +139,27 @@ fn others() -> String {
     cases.map(|(label, record, entry)| shows(label, record, entry)).concat() + beyond
 }
 
+/// Grounds where 150,000,000 is stored: at its P and T, at others, in absolute mode.
+fn places() -> String {
+    let stored = holding(200_000_000, Some(150_000_000), against(0));
+    let absolute = holding(200_000_000, Some(150_000_000), Mode::Absolute);
+    let cases = [
+        ("raw 0", stored, sample(0, P, T)),
+        ("raw 0, P 101299", stored, sample(0, 101_299, T)),
+        ("raw 0, T 29814", stored, sample(0, P, 29_814)),
+        ("raw 0, P 59999", stored, sample(0, 59_999, T)),
+        ("raw 150000000, P 101299", stored, sample(150_000_000, 101_299, T)),
+        ("absolute mode, raw 0", absolute, sample(0, P, T)),
+        ("absolute mode, raw 70000000", absolute, sample(70_000_000, P, T)),
+    ];
+    let shown = cases.map(|(label, (state, stored), event)| {
+        let ground = grounds::ground(&state, stored, &Entry::Known(event));
+        format!("{label} | {}\n", ground.number())
+    });
+    // At a record that the engine does not work with there is none.
+    shown.concat() + "R 150000001, raw 0 | 0\n"
+}
+
 pub fn text() -> String {
     let mut text = "K R raw | step | the rules with that R | ground\n".to_string();
     for k in [200_000_000, 10_000_000] {
@@ -147,5 +168,7 @@ pub fn text() -> String {
         }
     }
     text.push_str("event | its answer | stored after it | a sample at P 101300, T 29815\n");
-    text + &settings() + &samples() + &others()
+    text = text + &settings() + &samples() + &others();
+    text.push_str("a sample where 150000000 is stored at P 101300, T 29815 | ground\n");
+    text + &places()
 }

@@ -71,20 +71,21 @@ pub fn desk() -> Plan {
     Plan { sheets, events }
 }
 
-/// Samples that are over range, one by each ground, on document 01's bench sheet, on which the
-/// wet value at V 70,000,000 would be 3,010,000,000; and one that is not. V 80,000,000 at P 60,000 has a
-/// z of 135,066,667. With the zero at −20,000,000 raw 140,000,000 is V 160,000,000. K of the second
-/// sheet is 50,000,000.
+/// Samples that are over range, one on each ground, and one that is not. With the zero at
+/// −20,000,000 raw 140,000,000 is V 160,000,000. K of the second sheet is 50,000,000. V 80,000,000 at
+/// P 60,000 has a z of 135,066,667. On document 01's bench sheet the wet value at V 70,000,000 would be
+/// 3,010,000,000.
 pub fn over_range() -> Session {
     let sample = |raw, p| Event::Sample { raw, p, t: 29_815, e: 0 };
     let events = [
         Event::Load { index: 0 },
-        sample(70_000_000, 101_300),
-        sample(80_000_000, 60_000),
         Event::Zero { raw: -20_000_000 },
         sample(140_000_000, 101_300),
         Event::Load { index: 1 },
         sample(50_000_000, 101_300),
+        Event::Load { index: 0 },
+        sample(80_000_000, 60_000),
+        sample(70_000_000, 101_300),
         sample(40_000_000, 101_300),
     ];
     Session {

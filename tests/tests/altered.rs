@@ -87,9 +87,9 @@ fn a_ground_where_the_answer_is_8() {
 /// 5,000,000 + 40,000,000, h1 150,000,000 + 360,000,000, and the wet value 4,080,000,000; V -20,000,000 is
 /// read at 80,000,000 - 20,000,000 + 8,000,000 = 68,000,000, where it is 6.8 (150,000,000 +
 /// 6.8 × 39,000,000) = 2,823,360,000. With K 10,000,000 it is read at 80,000,000 - 20,000,000 + 160,000,000,
-/// above 150,000,000 and K, V 0 at or above K alone, and V 10,500,000 at 80,000,000 + 10,500,000 -
-/// 84,000,000 = 6,500,000. With R 150,000,000, V 0 is read at 150,000,000: not above that, and below
-/// K 200,000,000, but z is above 10^8.
+/// above 150,000,000 and K, V 0 at 80,000,000, not above 150,000,000 but above K, and V 10,500,000 at
+/// 80,000,000 + 10,500,000 - 84,000,000 = 6,500,000. With R 150,000,000, V 0 is read at 150,000,000: not
+/// above that, and below K 200,000,000, but z is above 10^8.
 #[test]
 fn grounds_by_hand() {
     for (case, refusal, ground) in [

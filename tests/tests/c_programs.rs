@@ -376,7 +376,8 @@ fn owed(line: &str, ground: Ground) -> Option<OwedLine> {
         (0, 9) => format!("{ordinal}: area {} umol/mol s", decimal(x, 7)),
         (0, _) => return None,
         _ => {
-            let over = if refusal == 8 { "over range: " } else { "" };
+            let named = format!("over range, ground {}: ", ground.number());
+            let over = if refusal == 8 { &named } else { "" };
             let before = format!("{ordinal}: refused {refusal}, {over}");
             return Some(OwedLine::Refused(before, (refusal, ground.number())));
         }
@@ -475,7 +476,7 @@ fn readings_over_range() {
         let lines = events.map(|(ordinal, ground)| {
             met.insert(*ground);
             format!(
-                "{ordinal}: refused 8, over range: {}",
+                "{ordinal}: refused 8, over range, ground {ground}: {}",
                 grounds::by_hand::ADVICE[usize::from(*ground) - 1]
             )
         });

@@ -121,7 +121,7 @@ fn what_document_02_says_of_every_sample() {
 
 /// Document 02's R-7: at the stored P and T what is stored counts, and else what a search finds. On the
 /// bench against 1,000,000,000, V 140,000,000 is read at 152,000,000 with R 40,000,000, which a search
-/// finds, and hardly lower with the R of a pressure or warmth one unit off; with R 0 it is read at
+/// finds, and hardly elsewhere with the R of a pressure or temperature one unit off; with R 0 it is read at
 /// 140,000,000, and in absolute mode too.
 #[test]
 fn what_is_stored_counts_at_its_p_and_t() {
@@ -514,7 +514,7 @@ fn events(file: &[u8]) -> usize {
 fn wrong_statuses() -> Vec<Wrong> {
     vec![
         wrong_tool("13 before 12", OUTCOME, |file, out| {
-            // As many events as its header says.
+            // As many events as its header says, by the lowest byte of their number.
             let count = file.get(8..12).map_or(1, |word| usize::from(word[0]));
             said_if(Session::open(file).is_none() && out.len() < count, 13, file, out)
         }),

@@ -33,13 +33,13 @@ fn every_event_is_accepted() {
 
 /// Each ground once, and a sample that is accepted.
 #[test]
-fn samples_over_range_by_each_ground() {
+fn samples_over_range_on_each_ground() {
     let session = lesson::over_range();
     assert_eq!(session.to_bytes(), OVER);
     let named: Vec<u8> = grounds::of_session(&session).iter().map(|g| g.number()).collect();
-    assert_eq!(named, [0, 4, 3, 0, 1, 0, 2, 0]);
+    assert_eq!(named, [0, 0, 1, 0, 2, 0, 3, 4, 0]);
     let refusals = session.answers().into_iter().map(|answer| answer.refusal);
-    assert_eq!(refusals.collect::<Vec<u8>>(), [0, 8, 8, 0, 8, 0, 8, 0]);
+    assert_eq!(refusals.collect::<Vec<u8>>(), [0, 0, 8, 0, 8, 0, 8, 8, 0]);
 }
 
 /// The commands in README.md name the file, so that it is not emptied before it is made.

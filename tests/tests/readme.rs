@@ -194,7 +194,6 @@ fn the_words_of_the_lesson() {
     assert!(shown.starts_with(&format!("{words}```\n")), "README.md has other words than\n{words}");
 }
 
-/// Steps, codes and limits of a chart recorder, and the manual's example.
 /// What the example prints of samples over range, as it is printed, and the four limits.
 #[test]
 fn what_to_turn() {
@@ -210,7 +209,8 @@ fn what_to_turn() {
                 micro(answer.y)
             )),
             (_, 8) => printed.push_str(&format!(
-                "{ordinal}: refused 8, over range: {}\n",
+                "{ordinal}: refused 8, over range, ground {}: {}\n",
+                ground.number(),
                 ADVICE[usize::from(ground.number()) - 1]
             )),
             _ => assert_eq!(answer.refusal, 0),
@@ -220,8 +220,7 @@ fn what_to_turn() {
     for (ground, words) in GROUNDS.iter().zip([
         format!("the signal is above {} (15 V) |", number(rules::SIGNAL_LIMIT)),
         "the signal is at the sheet's K or above it |".to_string(),
-        "z, the signal reduced to the standard pressure and dry air, is above 10^8 (10 V) |"
-            .to_string(),
+        "z, the signal reduced to 101,300 Pa and dry air, is above 10^8 (10 V) |".to_string(),
         format!(
             "the wet value would be above {}, which is 3,000 µmol/mol |",
             number(rules::WET_LIMIT)
@@ -231,6 +230,7 @@ fn what_to_turn() {
     }
 }
 
+/// Steps, codes and limits of a chart recorder, and the manual's example.
 #[test]
 fn the_recorder_s_numbers() {
     for (kind, name) in [(Kind::Voltage, "voltage"), (Kind::Current, "current")] {

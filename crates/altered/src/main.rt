@@ -4,9 +4,9 @@
 // What `stdout` holds, and where it comes from. First, for two values of K, what `step` answers to a sample at the stored P and T (refusal, R,
 // wet, dry), beside it what the rules give with that R, by the reading alone, and the number of the ground that `ground` names, 0 for none. Then
 // what an event does to a stored 30,000,000 (under K 10,000,000 a stored 3,000,000), which no search finds there: its answer, what stands stored
-// after it, and the answer of a sample at that P and T. All of it was computed by the independent implementation in tests/, which works from
-// documents 01 and 02 alone, and a test holds the file to it; but for the last line, a record that the engine does not work with, whose refusal 1
-// is ours.
+// after it, and the answer of a sample at that P and T. Last, grounds at other places, where a search is made, and in absolute mode. All of it was
+// computed by the independent implementation in tests/, which works from documents 01 and 02 alone, and a test holds the file to it; but for the two
+// lines of R 150,000,001, a record that the engine does not work with, whose refusal 1 and ground 0 are ours.
 ghost use mathlib.Core.Path.{_≡_};
 ghost use mathlib.Core.Bool.{true};
 ghost use Prim.Native.Nat.{_≤_};
@@ -78,6 +78,11 @@ fn main() {
     settings();
     samples();
     others();
+    io::write_all(
+        STDOUT_FILENO,
+        b"a sample where 150000000 is stored at P 101300, T 29815 | ground\n",
+    );
+    places();
 }
 
 // Reference signals from 0 to 150,000,000, at the smaller K and above it too, and nothing.
@@ -114,7 +119,10 @@ fn row(k: u64, found: Found, raw: i32)
     print_case(k, found, raw);
     print_step(k, found, measured(raw, 101300, 29815));
     print_rules(k, found, measured(raw, 101300, 29815));
-    print_ground(k, found, measured(raw, 101300, 29815));
+    print_ground(
+        holding(k, found, reference_mode(0)),
+        measured(raw, 101300, 29815),
+    );
 }
 
 fn print_step(k: u64, found: Found, at: Measurement)
@@ -138,13 +146,44 @@ fn print_rules(k: u64, found: Found, at: Measurement)
     io::write_all(STDOUT_FILENO, b" | ");
 }
 
-// R-9: the ground of that sample at that record, 0 for none.
-fn print_ground(k: u64, found: Found, at: Measurement)
-    requires { ⌜ (10000000 ≤ k) × (k ≤ 400000000) × (foundValue found ≤ 150000000) ⌝ }
-{
-    let named = ground(holding(k, found, reference_mode(0)), at);
-    io::print_decimal(STDOUT_FILENO, number_of(named) as u64);
+// R-9: the ground of a sample at a record, 0 for none.
+fn print_ground(st: State, at: Measurement) {
+    io::print_decimal(STDOUT_FILENO, number_of(ground(st, at)) as u64);
     io::write_all(STDOUT_FILENO, b"\n");
+}
+
+// At the stored P and T the stored signal is over range; elsewhere a search finds one that is not, unless raw is high; in absolute mode neither counts.
+// The last record is one that the engine does not work with.
+fn places() {
+    let stored = holding(200000000, Found::At(150000000), reference_mode(0));
+    place(b"raw 0", stored, measured(0, 101300, 29815));
+    place(b"raw 0, P 101299", stored, measured(0, 101299, 29815));
+    place(b"raw 0, T 29814", stored, measured(0, 101300, 29814));
+    place(b"raw 0, P 59999", stored, measured(0, 59999, 29815));
+    place(
+        b"raw 150000000, P 101299",
+        stored,
+        measured(150000000, 101299, 29815),
+    );
+    let absolute = holding(200000000, Found::At(150000000), Mode::Absolute);
+    place(
+        b"absolute mode, raw 0",
+        absolute,
+        measured(0, 101300, 29815),
+    );
+    place(
+        b"absolute mode, raw 70000000",
+        absolute,
+        measured(70000000, 101300, 29815),
+    );
+    let beyond = holding(200000000, Found::At(150000001), reference_mode(0));
+    place(b"R 150000001, raw 0", beyond, measured(0, 101300, 29815));
+}
+
+fn place(label: &[u8], st: State, at: Measurement) {
+    io::write_all(STDOUT_FILENO, label);
+    io::write_all(STDOUT_FILENO, b" | ");
+    print_ground(st, at);
 }
 
 // The bench sheet with this K in this mode, altered to hold this finding at P 101,300 and T 29,815.

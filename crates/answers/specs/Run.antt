@@ -1,4 +1,4 @@
--- The run over a session file, and its lines in a lent buffer: document 01's status, bytes written and every byte. Assumes nothing.
+-- The run over a session file, and its lines or its grounds in a lent buffer: document 01's status, bytes written and every byte. Assumes nothing.
 use Prim.Native.Nat.{ℕ, _*_}
 use mathlib.Core.Bool.{cond}
 use mathlib.Core.List.{List}
@@ -18,6 +18,6 @@ emittedOf form file = emittedFrom form 1 (transcriptOf file)
 unfoldable pub statusAs : Form → List ℕ → ℕ → ℕ
 statusAs form file room = cond (wellFormed file) (cond (leb (roomOf form * eventCount file) room) 0 13) 12
 
--- a file's answers, or its lines, in a lent buffer that was `old`
+-- a file's answers, its lines or its grounds in a lent buffer that was `old`
 abbrev pub FillsAs : Form → List ℕ → List ℕ → ℕ → ℕ → List ℕ → Type 0
 FillsAs form file old status written out = Fills (statusAs form file (length old)) (emittedOf form file) old status written out

@@ -1,6 +1,6 @@
--- The claim on a file's grounds, `EveryGrounds`: byte i of the output is the number of the ground at line i, which is named exactly where that line
--- is answered with 8. Assumes nothing.
-use Prim.Native.Nat.{ℕ, zero, suc, _+_, _≤_}
+-- The claims on a file's grounds: byte i of the output is the number of the ground at line i, which is named exactly where that line is answered
+-- with 8, and that answer stands in the run's record i. Assumes nothing.
+use Prim.Native.Nat.{ℕ, zero, suc, _+_, _*_, _≤_, _<_}
 use native.Mathlib.Nat.{zero-add}
 use native.Mathlib.Omega.{arith}
 use mathlib.Core.Bool.{true, false}
@@ -26,8 +26,8 @@ use Rattle.session.specs.Transcript.{transcriptOf}
 use Rattle.answers.specs.Run.{emittedOf, statusAs, FillsAs}
 use Rattle.answers.proofs.Outcome.{status-0, status-12, status-13}
 use Rattle.claims.specs.Claim.{LineIs}
-use Rattle.claims.specs.Grounds.{GroundGiven, Grounded, EveryGrounds}
-use Rattle.claims.proofs.Claim.{file-lines, every-line-of, kept}
+use Rattle.claims.specs.Grounds.{Tells, EventGrounded, Grounded, EveryGrounds, BesideTheRun}
+use Rattle.claims.proofs.Claim.{element, file-lines, line-entry, every-line-of, line-read, kept}
 
 -- ---- the byte of a line
 number-named : (g : Ground) → isNamed g ≡ true → (1 ≤ groundNumber g) × (groundNumber g ≤ 4)
@@ -50,14 +50,10 @@ groundIn l = entryGround (l .before) (l .entry)
 line-named : (file : List ℕ) (i : ℕ) (l : Line) → LineIs file i l → isNamed (groundIn l) ≡ eqb (refusalOf (l .answer)) 8
 line-named file = every-line-of (λ (l : Line). isNamed (groundIn l) ≡ eqb (refusalOf (l .answer)) 8) file (exactly (sheetsOf file))
 
-given : (file : List ℕ) (i : ℕ) (l : Line) → LineIs file i l → GroundGiven l (groundNumber (groundIn l))
-given file i l is =
+line-tells : (file : List ℕ) (i : ℕ) (l : Line) → LineIs file i l → Tells (refusalOf (l .answer)) (groundNumber (groundIn l))
+line-tells file i l is =
     let n = line-named file i l is in
-    record {
-      is = refl;
-      named = λ e. number-named (groundIn l) (n ∙ eq-eqb _ 8 e);
-      none = λ h. number-none (groundIn l) (n ∙ ne-eqb _ 8 h);
-    }
+    record { named = λ e. number-named (groundIn l) (n ∙ eq-eqb _ 8 e); none = λ h. number-none (groundIn l) (n ∙ ne-eqb _ 8 h) }
 
 -- ---- the bytes of the lines, with what follows
 byte-in : (ordinal : ℕ) (ls : List Line) (rest : List ℕ) (i : ℕ) (l : Line) → getElem? ls i ≡ some l
@@ -85,12 +81,28 @@ module _ (file old : List ℕ) (w : wellFormed file ≡ true) (h : eventCount fi
   output-is : out ≡ emittedOf Form.Grounds file ++ drop (eventCount file) old
   output-is = put .stands ∙ rw (length-put, zero-add)
 
+  byte-is : (i : ℕ) (l : Line) → LineIs file i l → getElem? out i ≡ some (groundNumber (groundIn l))
+  byte-is i l is = rw output-is (byte-in 1 (transcriptOf file) _ i l is)
+
+  event-grounded : (i : ℕ) → i < eventCount file → EventGrounded file out i
+  event-grounded i b =
+      let found = element (transcriptOf file) i (omega (arith, file-lines file)) in
+      let l = found .0 in
+      record {
+        line = l;
+        is = found .1;
+        entry = line-entry file i l (found .1);
+        byte = byte-is i l (found .1);
+        tells = line-tells file i l (found .1);
+      }
+
   grounded : Grounded file old status written out
   grounded =
       record {
         accepted = f .ended ∙ sym status-is;
         bytes = omega (arith, put .ends, length-put);
-        events = λ i l is. record { byte = groundNumber (groundIn l); stands = rw output-is (byte-in 1 (transcriptOf file) _ i l is); given = given file i l is };
+        lines = file-lines file;
+        events = event-grounded;
         size = puts-length put;
         after = rw (output-is, drop-at (emittedOf Form.Grounds file) (drop (eventCount file) old) (eventCount file) length-put);
       }
@@ -102,3 +114,9 @@ every-grounds file old status written out f =
       short = λ w h. kept Form.Grounds file old f (status-13 Form.Grounds file (length old) w (omega arith)) (λ z. omega arith);
       long = λ w h. grounded file old w h f;
     }
+
+pub beside-the-run : BesideTheRun
+beside-the-run file room old are w h k status written status′ written′ ran out f g i b =
+    let e = event-grounded file old w k g i b in
+    let l = e .line in
+    (groundNumber (groundIn l), e .byte, rw (line-read file room w h f i l (e .is) are) (e .tells))

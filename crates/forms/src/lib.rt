@@ -1,13 +1,13 @@
-// What is put of each event of a session file whose answers are put, in each form. `outputs` asks here, once for an event: another form that
-// goes by the event's ordinal and its line of the transcript is another case of `room_of` and `emit`.
+// What is put of each event of a session file of which every event has its piece, in each form. `outputs` asks here, once for an event: another form
+// that goes by the event's ordinal and its line of the transcript is another case of `room_of` and `emit`.
 ghost use mathlib.Core.Path.{_≡_};
 ghost use Prim.Native.Nat.{_+_, _≤_, _<_};
 ghost use lib.ListN.{length};
 ghost use Rattle.layout.specs.Lent.{Puts};
 ghost use Rattle.rules.specs.Answer.{mOf};
+ghost use Rattle.engine.specs.Step.{SteppedBy};
 ghost use Rattle.engine.specs.Transcript.{lineAt, recordWith};
 ghost use Rattle.entries.specs.Entries.{entryOf};
-ghost use Rattle.grounds.specs.Grounds.{SteppedBy};
 ghost use Rattle.forms.specs.Forms.{emitted, roomOf};
 use entries::entry_of;
 use grounds::naming::ground_of;

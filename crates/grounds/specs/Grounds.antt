@@ -2,8 +2,6 @@
 -- the absolute reading (`signalHigh` to `wetHigh`). Assumes nothing.
 use Prim.Native.Nat.{ℕ}
 use mathlib.Core.Bool.{cond}
-use mathlib.Core.List.{List}
-use mathlib.Core.Path.{_≡_}
 use lib.Dec.{eqb}
 use lib.IntN.{ℤ}
 use Rattle.curve.specs.declared.Sheet.{Sheet}
@@ -20,10 +18,8 @@ use Rattle.rules.specs.declared.Loaded.{Loaded}
 use Rattle.rules.specs.declared.State.{State}
 use Rattle.rules.specs.declared.Event.{Event}
 use Rattle.rules.specs.declared.Entry.{Entry}
-use Rattle.rules.specs.declared.Stepped.{Stepped}
 use Rattle.rules.specs.Limits.{workable}
 use Rattle.events.specs.Sample.{storing}
-use Rattle.engine.specs.Step.{stepOf}
 use Rattle.grounds.specs.declared.Ground.{Ground}
 
 -- its number, in document 02's order, 0 for none: the byte that a host gets
@@ -35,7 +31,7 @@ groundNumber Ground.ReducedHigh = 3
 groundNumber Ground.WetHigh = 4
 
 -- the first that holds of a signal V under a sheet, in the air of the cell: V above 150,000,000; V at or above K; z above 10^8; c above
--- 3,000,000,000
+-- 3,000,000,000; none where none of them does
 unfoldable pub firstGround : Sheet → ℤ → Air → Ground
 firstGround s v a =
     cond (signalHigh v) Ground.SignalHigh
@@ -84,8 +80,3 @@ entryGround st (Entry.Known Event.Start) = Ground.Nothing
 entryGround st (Entry.Known Event.Stop) = Ground.Nothing
 entryGround st (Entry.Known Event.Area) = Ground.Nothing
 entryGround st (Entry.Malformed kind) = Ground.Nothing
-
--- the engine's step at a state made `next` of an entry, under some list of sheets
-pub record SteppedBy (st : State) (entry : Entry) (next : Stepped) : Type 0 where
-  pub sheets : List ℕ
-  pub is : next ≡ stepOf sheets st entry

@@ -14,7 +14,8 @@ ghost use Rattle.sampling.specs.Sample.{signalRead};
 ghost use Rattle.rules.specs.Answer.{refusalOf};
 ghost use Rattle.rules.specs.Limits.{loadedWithin};
 ghost use Rattle.events.specs.Sample.{sampledOf};
-ghost use Rattle.grounds.specs.Grounds.{firstGround, groundUnder, groundOf, entryGround, SteppedBy};
+ghost use Rattle.engine.specs.Step.{SteppedBy};
+ghost use Rattle.grounds.specs.Grounds.{firstGround, groundUnder, groundOf, entryGround};
 use crate::Ground;
 use curve::Air;
 use curve::Sheet;
@@ -48,7 +49,7 @@ pub fn ground(st: State, at: Measurement) -> Ground
 }
 
 // The same of an entry that was stepped already, as a run over a file has it. What the sample went by is in the state after it: what is set stays, and
-// the finding stands stored. So a run need not keep the state before it.
+// the finding stands stored. The state before it is there for the contract alone, so that the compiled run need not keep it.
 pub fn ground_of(st: State, entry: Entry, next: Stepped) -> Ground
     requires { ⌜ SteppedBy st entry next ⌝ }
     ensures { λ r. ⌜ r ≡ entryGround st entry ⌝ }

@@ -53,8 +53,8 @@ pub extern "C" fn irga_page(file: &[u8], every: u32, out: &mut [u8], written: &m
     made.status
 }
 
-// Puts the ground of each event of a session file into `out`, a byte each, 1 to 4 where a run answers it with 8 and else 0: 0, or refusal 12 or 13,
-// which leaves `out` as it was. `written` becomes the count of bytes that it wrote, 0 with a refusal.
+// Puts the ground of each event of a session file into `out`, a byte each: 1 to 4 where a run answers the event with 8, and 0 elsewhere. Answers 0, or
+// refusal 12 or 13, which leaves `out` as it was. `written` becomes the count of bytes that it wrote, 0 with a refusal.
 #[no_mangle]
 pub extern "C" fn irga_grounds(file: &[u8], out: &mut [u8], written: &mut usize) -> u8
     ensures { λ r. ⌜ FillsAs Form.Grounds (now (file .entry)) (now (out .entry)) r (now (written .exit)) (now (out .exit)) ⌝ }

@@ -7,13 +7,16 @@ use crate::file::{EventRecord, Session, EVENTS_LIMIT};
 
 /// The words of `examples/readings.c` for each ground: the limit of document 01, and what to turn.
 pub const ADVICE: [&str; 4] = [
-    "the signal is above 150,000,000: set zero and span again, look at the reference cylinder, \
-     or thin the gas",
-    "the signal is not below the sheet's K: look whether this is the right sheet, set zero and \
-     span again, or thin the gas",
-    "the signal at standard pressure is above 100,000,000: look at pressure and vapour pressure, \
-     or thin the gas",
-    "more than 3,000 umol/mol: thin the gas; if it has less, look at sheet, span and temperature",
+    "the signal is above 150,000,000 (15 V): set zero and span again (span in absolute mode), \
+     against a reference look at its cylinder, or dilute the gas",
+    "the signal is not below the sheet's K: compare K with the printed sheet, set zero and span \
+     again (span in absolute mode), or dilute the gas",
+    "the signal at standard pressure is above 100,000,000 (10 V): look at pressure and vapour \
+     pressure, set zero and span again (span in absolute mode), against a reference look at its \
+     cylinder, or dilute the gas",
+    "more than 3,000 umol/mol: dilute the gas; if it has less, look at pressure, temperature and \
+     sheet, set zero and span again (span in absolute mode), against a reference look at its \
+     cylinder",
 ];
 
 /// A session with the refusal and the ground that are owed to each of its events.
@@ -345,7 +348,7 @@ fn two_sheets() -> Owed {
 }
 
 /// A reference's e above a tenth of the sample's P is 6, and at a tenth it passes. There D is 6,343,057,
-/// R about 5,000,000 D / 10,130,000, which is 3,130,827, and the signal V and 2.3 or 2.0 million more.
+/// R about 5,000,000 D / 10,130,000, which is 3,130,828, and the signal V and 2.3 or 2.0 million more.
 fn damp_reference() -> Owed {
     let reference = Event::Reference { cylinder: 1, e: 6_001 };
     owed(

@@ -17,9 +17,9 @@ use Rattle.rules.specs.declared.Entry.{Entry}
 use Rattle.rules.specs.declared.Stepped.{Stepped}
 use Rattle.rules.specs.Answer.{refusalOf}
 use Rattle.rules.proofs.Event.{the-type}
-use Rattle.engine.specs.Step.{stepOf}
+use Rattle.engine.specs.Step.{stepOf, SteppedBy}
 use Rattle.grounds.specs.declared.Ground.{Ground}
-use Rattle.grounds.specs.Grounds.{entryGround, SteppedBy}
+use Rattle.grounds.specs.Grounds.{entryGround}
 use Rattle.grounds.proofs.Samples.{Over, over}
 use Rattle.grounds.proofs.Promises.{unnamed}
 use Rattle.grounds.proofs.naming.ground_of.Statement.{statement}

@@ -1,6 +1,6 @@
 -- The claims on a file's grounds: byte i of the output is the number of the ground at line i, which is named exactly where that line is answered
 -- with 8, and that answer stands in the run's record i. Assumes nothing.
-use Prim.Native.Nat.{ℕ, zero, suc, _+_, _*_, _≤_, _<_}
+use Prim.Native.Nat.{ℕ, zero, suc, _+_, _≤_, _<_}
 use native.Mathlib.Nat.{zero-add}
 use native.Mathlib.Omega.{arith}
 use mathlib.Core.Bool.{true, false}

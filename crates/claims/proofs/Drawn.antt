@@ -38,7 +38,7 @@ by-case w (spans low high) = tt
 by-case w (refers g) = tt
 by-case w absolute = tt
 by-case w (closes n) = tt
-by-case w starts = tt
+by-case w (starts s) = tt
 by-case w stops = tt
 by-case w (totals i) = tt
 

@@ -3,6 +3,7 @@ ghost use mathlib.Core.Path.{_≡_};
 ghost use Rattle.counting.specs.Limits.{tallyWithin, integrationWithin};
 use crate::Integration;
 use crate::Tally;
+use crate::limit_of;
 use rounding::signed::magnitude;
 
 pub fn integration_within(i: Integration) -> bool
@@ -11,7 +12,7 @@ pub fn integration_within(i: Integration) -> bool
     match i {
         Integration::Idle => true,
         // A running one has a place left.
-        Integration::Running(t) => tally_within(t) && t.n < 600000,
+        Integration::Running(chart, t) => tally_within(t) && t.n < limit_of(chart),
         Integration::Closed(t) => tally_within(t),
     }
 }

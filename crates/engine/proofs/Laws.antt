@@ -48,6 +48,7 @@ module _ (a b : List ℕ) (st : State) where
   rules-same (Entry.Known Event.Start) e = refl
   rules-same (Entry.Known Event.Stop) e = refl
   rules-same (Entry.Known Event.Area) e = refl
+  rules-same (Entry.Known Event.StartShort) e = refl
   rules-same (Entry.Malformed kind) e = refl
 
   no-load : (entry : Entry) → isLoad entry ≡ false → stepOf a st entry ≡ stepOf b st entry

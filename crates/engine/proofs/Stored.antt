@@ -24,6 +24,6 @@ step-searched (refers e) h = tt
 step-searched absolute h = tt
 step-searched {st = st} (samples {at} x) h = storing-searched st at h
 step-searched {st = st} (closes {at} n) h = storing-searched st at h
-step-searched starts h = h
+step-searched (starts s) h = h
 step-searched stops h = h
 step-searched (totals t) h = h

@@ -5,6 +5,7 @@ ghost use Rattle.events.specs.Events.{eventRule};
 ghost use Rattle.rules.specs.Limits.{workable as Limits·workable};
 ghost use Rattle.engine.specs.Step.{stepOf};
 use crate::limits::workable;
+use counting::Chart;
 use events::area;
 use events::malformed;
 use events::sample;
@@ -49,8 +50,9 @@ fn known(sheets: &[u8], st: State, event: Event) -> Stepped
         Event::Reference { cylinder, e } => reference(st, cylinder, e),
         Event::Absolute => absolute(st),
         Event::Sample { at } => sample(st, at),
-        Event::Start => start(st),
+        Event::Start => start(st, Chart::Long),
         Event::Stop => stop(st),
         Event::Area => area(st),
+        Event::StartShort => start(st, Chart::Short),
     }
 }

@@ -1,5 +1,5 @@
--- An event record as an entry: document 01's nine kinds, with zero where a kind has no field; else it is malformed, which is
--- refusal 11. And the record of an event. Assumes nothing.
+-- An event record as an entry: document 01's nine kinds and R-10's kind 10, with zero where a kind has no field; else it is malformed, which
+-- is refusal 11. And the record of an event. Assumes nothing.
 use Prim.Native.Nat.{ℕ}
 use mathlib.Core.Path.{_≡_}
 use mathlib.Core.Bool.{Bool, _&&_, cond}
@@ -8,7 +8,7 @@ use lib.IntN.{ℤ, pos, natAbs}
 use Rattle.layout.specs.declared.EventRecord.{EventRecord}
 use Rattle.sampling.specs.declared.Measurement.{Measurement}
 use Rattle.rules.specs.declared.Event.{Event}
-use Rattle.rules.specs.declared.Event.the-variants.{Load, Zero, Span, Reference, Absolute, Sample, Start, Stop, Area}
+use Rattle.rules.specs.declared.Event.the-variants.{Load, Zero, Span, Reference, Absolute, Sample, Start, Stop, Area, StartShort}
 use Rattle.rules.specs.declared.Entry.{Entry}
 
 -- fields that are zero
@@ -43,7 +43,8 @@ byKind r =
     (cond (eqb (r .kind) 7) (knownIf (noFields r) r Event.Start)
     (cond (eqb (r .kind) 8) (knownIf (noFields r) r Event.Stop)
     (cond (eqb (r .kind) 9) (knownIf (noFields r) r Event.Area)
-    (Entry.Malformed (r .kind))))))))))
+    (cond (eqb (r .kind) 10) (knownIf (noFields r) r Event.StartShort)
+    (Entry.Malformed (r .kind)))))))))))
 
 -- the three bytes after the kind are zero
 unfoldable pub entryOf : EventRecord → Entry
@@ -64,6 +65,7 @@ recordOfEvent (Sample at) = eventWith 6 (at .raw) 0 (at .p) (at .t) (at .e)
 recordOfEvent Start = eventWith 7 (pos 0) 0 0 0 0
 recordOfEvent Stop = eventWith 8 (pos 0) 0 0 0 0
 recordOfEvent Area = eventWith 9 (pos 0) 0 0 0 0
+recordOfEvent StartShort = eventWith 10 (pos 0) 0 0 0 0
 
 -- the two are inverse: an event's record is read as the event, and no other record is
 pub record EntryInverse : Type 0 where

@@ -33,7 +33,7 @@ use Rattle.events.specs.Events.{sampleBy, sampleRead}
 use Rattle.events.proofs.Stored.{stored-under, storing-at}
 use Rattle.engine.specs.Step.{stepOf}
 use Rattle.engine.proofs.Laws.{by-rules}
-use Rattle.engine.proofs.Cases.{closing, Ruled, refuses, malformed, loads, zeroes, spans, refers, samples, closes, starts, stops, totals, ruled}
+use Rattle.engine.proofs.Cases.{long, short, closing, Ruled, refuses, malformed, loads, zeroes, spans, refers, samples, closes, starts, stops, totals, ruled}
 use Rattle.ledger.proofs.Demand3.{from-fresh}
 use Rattle.findings.specs.Claim.{sampleOf, foundAt, storedAfter, empties, Searches, SearchesNot, no-sheet, by-6, stored-there, StoreMoves, StoreHolds, AlteredHolds, ReferenceStored}
 use Rattle.findings.proofs.Searching.{same}
@@ -81,7 +81,8 @@ moved (refers g) = empty-after refl refl refl
 moved Ruled.absolute = empty-after refl refl refl
 moved (samples {at} x) = sampled-after at
 moved (closes {at} n) = sampled-after at
-moved starts = as-before refl refl
+moved (starts long) = as-before refl refl
+moved (starts short) = as-before refl refl
 moved stops = as-before refl refl
 moved (totals i) = as-before refl refl
 

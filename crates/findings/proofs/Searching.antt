@@ -59,7 +59,7 @@ module _ (sheets : List ℕ) (st : State) where
 
   stop-in : (i : Integration) → Beside (stopIn i (emptied st)) (stopIn i st)
   stop-in Integration.Idle = here _
-  stop-in (Integration.Running t) = here _
+  stop-in (Integration.Running chart t) = here _
   stop-in (Integration.Closed t) = here _
 
   malformed : (t : Bool)
@@ -85,6 +85,7 @@ module _ (sheets : List ℕ) (st : State) where
   beside h (Entry.Known Event.Start) = on-sheet (st .loaded) (λ s. here _)
   beside h (Entry.Known Event.Stop) = on-sheet (st .loaded) (λ s. stop-in (st .integration))
   beside h (Entry.Known Event.Area) = on-sheet (st .loaded) (λ s. here _)
+  beside h (Entry.Known Event.StartShort) = on-sheet (st .loaded) (λ s. here _)
   beside h (Entry.Malformed kind) = malformed (eqb kind 6)
 
 -- over a list, from a state that some list leaves

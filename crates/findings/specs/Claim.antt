@@ -53,6 +53,7 @@ empties (Entry.Known (Event.Sample at)) = false
 empties (Entry.Known Event.Start) = false
 empties (Entry.Known Event.Stop) = false
 empties (Entry.Known Event.Area) = false
+empties (Entry.Known Event.StartShort) = false
 empties (Entry.Malformed kind) = false
 
 -- a sample, refused or not, that searches and stores: against a reference, its inputs passing check 6, with nothing stored or at another P or T
@@ -73,7 +74,7 @@ pub data SearchesNot (st : State) (at : Measurement) : Type 0 where
 pub record StoreMoves (sheets : List ℕ) (st : State) : Type 0 where
   -- accepted load, reference and absolute empty it
   pub emptied : (entry : Entry) → empties entry ≡ true → accepted (stepOf sheets st entry .answer) ≡ true → storedAfter sheets st entry ≡ Stored.Empty
-  -- refused they leave it, and every other entry but a sample leaves it: zero, span, start, stop, area and a malformed one
+  -- refused they leave it, and every other entry but a sample leaves it: zero, span, both starts, stop, area and a malformed one
   pub refused-leaves : (entry : Entry) → empties entry ≡ true → accepted (stepOf sheets st entry .answer) ≡ false → storedAfter sheets st entry ≡ st .stored
   pub other-leaves : (entry : Entry) → empties entry ≡ false → ((at : Measurement) → entry ≡ sampleOf at → ⊥) → storedAfter sheets st entry ≡ st .stored
   -- a sample replaces it by what a search finds at its P and T, whatever its answer, or leaves it

@@ -24,7 +24,7 @@ by-case e (refers g) = refl
 by-case e absolute = refl
 by-case e (samples x) = refl
 by-case e (closes n) = absurd (subst T e tt)
-by-case e starts = refl
+by-case e (starts s) = refl
 by-case e stops = refl
 by-case e (totals t) = refl
 

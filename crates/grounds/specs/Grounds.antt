@@ -79,4 +79,5 @@ entryGround st (Entry.Known (Event.Sample at)) = groundOf st at
 entryGround st (Entry.Known Event.Start) = Ground.Nothing
 entryGround st (Entry.Known Event.Stop) = Ground.Nothing
 entryGround st (Entry.Known Event.Area) = Ground.Nothing
+entryGround st (Entry.Known Event.StartShort) = Ground.Nothing
 entryGround st (Entry.Malformed kind) = Ground.Nothing

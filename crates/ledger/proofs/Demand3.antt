@@ -48,7 +48,7 @@ kept sheets st t f (entry ∷ entries) =
     ((refl, record { by-rules = refl; refusal = n .refusal; by-ledger = n .ledger }, k .0), k .1))
 
 fresh-together : Together fresh freshLedger []
-fresh-together = record { xs = []; runs = false; settings = fresh-settings; keeps = idle; same = refl }
+fresh-together = record { xs = []; runs = false; limit = 0; settings = fresh-settings; keeps = idle; same = refl }
 
 pub demand-3 : (sheets : List ℕ) (entries : List Entry) → Demand3 sheets entries
 demand-3 sheets entries = kept sheets fresh fresh-together tt entries .0

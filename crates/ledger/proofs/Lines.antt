@@ -15,6 +15,7 @@ use Rattle.exact.specs.Area.{EachWithin}
 use Rattle.exact.proofs.Area.{same-length, area-distance}
 use Rattle.rules.specs.declared.Loaded.{Loaded}
 use Rattle.sampling.specs.declared.Mode.{Mode}
+use Rattle.counting.specs.declared.Chart.{Chart}
 use Rattle.counting.specs.declared.Tally.{Tally}
 use Rattle.rules.specs.declared.State.{State}
 use Rattle.rules.specs.declared.Event.{Event}
@@ -30,7 +31,7 @@ use Rattle.events.specs.Sample.{searchedFor, StoredIsSearched}
 use Rattle.events.specs.Events.{rules}
 use Rattle.events.proofs.Inversion.{accepted-in, given-in, wet-in}
 use Rattle.events.proofs.Stored.{agrees-in, same-sample}
-use Rattle.engine.proofs.Cases.{closing, Ruled, refuses, malformed, loads, zeroes, spans, refers, absolute, samples, closes, starts, stops, totals, ruled}
+use Rattle.engine.proofs.Cases.{long, short, closing, Ruled, refuses, malformed, loads, zeroes, spans, refers, absolute, samples, closes, starts, stops, totals, ruled}
 use Rattle.ledger.specs.Ledger.{Ledger, withSeries, taken, exactValue, refusedBy, ledgerStep}
 use Rattle.ledger.specs.Wets.{wetsStep}
 use Rattle.ledger.specs.Claim.{RefusalHolds, LedgerHolds}
@@ -48,7 +49,7 @@ pub record SettingsOk (loaded : Loaded) (q : ℤ) (s : ℕ) (mode : Mode) : Type
 abbrev pub Settings : State → Type 0
 Settings st = SettingsOk (st .loaded) (st .q) (st .s) (st .mode)
 
-pub workable-is : (st : State) {ws : List ℤ} {xs : List Fraction} {b : Bool} → Settings st → Keeps (st .integration) ws xs b
+pub workable-is : (st : State) {ws : List ℤ} {xs : List Fraction} {b : Bool} {limit : ℕ} → Settings st → Keeps (st .integration) ws xs b limit
     → storedWithin (st .stored) ≡ true → workable st ≡ true
 unfolding workable
 workable-is st h k f =
@@ -66,9 +67,10 @@ workable-is st h k f =
 pub record Together (st : State) (g : Ledger) (ws : List ℤ) : Type 0 where
   pub xs : List Fraction
   pub runs : Bool
+  pub limit : ℕ
   pub settings : Settings st
-  pub keeps : Keeps (st .integration) ws xs runs
-  pub same : g ≡ ledgerAt st xs runs
+  pub keeps : Keeps (st .integration) ws xs runs limit
+  pub same : g ≡ ledgerAt st xs runs limit
 
 -- what is to be shown of what a rule gives
 pub record Good (sheets : List ℕ) (g : Ledger) (ws : List ℤ) (entry : Entry) (r : Stepped) : Type 0 where
@@ -76,31 +78,31 @@ pub record Good (sheets : List ℕ) (g : Ledger) (ws : List ℤ) (entry : Entry)
   pub ledger : LedgerHolds g ws entry (r .answer)
   pub next : Together (r .state) (ledgerStep sheets g entry (r .answer)) (wetsStep (g .runs) ws entry (r .answer))
 
-module _ (sheets : List ℕ) (st : State) {ws : List ℤ} {xs : List Fraction} {b : Bool} (h : Settings st) (k : Keeps (st .integration) ws xs b)
+module _ (sheets : List ℕ) (st : State) {ws : List ℤ} {xs : List Fraction} {b : Bool} {m : ℕ} (h : Settings st) (k : Keeps (st .integration) ws xs b m)
     (f : StoredIsSearched st) where
   abbrev g : Ledger
-  g = ledgerAt st xs b
+  g = ledgerAt st xs b m
 
   -- ---- by the next state and the series beside it
-  makes : {entry : Entry} {a : Answer} {next : State} (ys : List Fraction) (runs : Bool) → RefusalHolds a → LedgerHolds g ws entry a → Settings next
-      → Keeps (next .integration) (wetsStep b ws entry a) ys runs → ledgerStep sheets g entry a ≡ ledgerAt next ys runs
+  makes : {entry : Entry} {a : Answer} {next : State} (ys : List Fraction) (runs : Bool) (limit : ℕ) → RefusalHolds a → LedgerHolds g ws entry a
+      → Settings next → Keeps (next .integration) (wetsStep b ws entry a) ys runs limit → ledgerStep sheets g entry a ≡ ledgerAt next ys runs limit
       → Good sheets g ws entry (answered a next)
-  makes ys runs e l set i same =
+  makes ys runs limit e l set i same =
       record {
         refusal = e;
         ledger = l;
-        next = record { xs = ys; runs = runs; settings = set; keeps = i; same = same };
+        next = record { xs = ys; runs = runs; limit = limit; settings = set; keeps = i; same = same };
       }
 
   -- ---- refused by a number of the list: the settings, the wet values and the series stay
   refusal : {entry : Entry} {next : State} (number : ℕ) (runs : Bool) → within 1 11 number ≡ true
-      → LedgerHolds g ws entry (Answer.Refused number) → Settings next → Keeps (next .integration) ws xs runs
-      → refusedBy g entry ≡ ledgerAt next xs runs → Good sheets g ws entry (refused next number)
+      → LedgerHolds g ws entry (Answer.Refused number) → Settings next → Keeps (next .integration) ws xs runs m
+      → refusedBy g entry ≡ ledgerAt next xs runs m → Good sheets g ws entry (refused next number)
   unfolding ledgerStep wetsStep
   refusal number runs w l set i same =
       let r = range 1 11 number w in
       let n : eqb number 0 ≡ false = ne-eqb number 0 (λ z. omega (arith, r .0)) in
-      makes xs runs (r .0, r .1, refl, refl, refl) l set (rw n i) (rw n same)
+      makes xs runs m (r .0, r .1, refl, refl, refl) l set (rw n i) (rw n same)
 
   -- the ledger has nothing to compare with a known event that is refused
   unasked : (event : Event) (number : ℕ) → LedgerHolds g ws (Entry.Known event) (Answer.Refused number)
@@ -113,16 +115,17 @@ module _ (sheets : List ℕ) (st : State) {ws : List ℤ} {xs : List Fraction} {
   unasked Event.Start number = tt
   unasked Event.Stop number = tt
   unasked Event.Area number = tt
+  unasked Event.StartShort number = tt
 
   malformed-good : (kind : ℕ) (t : Bool) → eqb kind 6 ≡ t → Good sheets g ws (Entry.Malformed kind) (refused (cond t (closing st) st) 11)
   malformed-good kind true e = refusal 11 false refl refl h (keeps-closed k) (rw e)
   malformed-good kind false e = refusal 11 b refl refl h k (rw e)
 
   -- ---- a sample
-  taken-is : (x : Fraction) → taken g x ≡ withSeries g (takenAtEnd xs b x) (takenRuns xs b)
+  taken-is : (x : Fraction) → taken g x ≡ withSeries g (takenAtEnd xs b x) (takenRuns xs b m)
   taken-is x = go b
     where
-      go : (t : Bool) → taken (ledgerAt st xs t) x ≡ withSeries (ledgerAt st xs t) (takenAtEnd xs t x) (takenRuns xs t)
+      go : (t : Bool) → taken (ledgerAt st xs t m) x ≡ withSeries (ledgerAt st xs t m) (takenAtEnd xs t x) (takenRuns xs t m)
       go true = refl
       go false = refl
 
@@ -131,7 +134,7 @@ module _ (sheets : List ℕ) (st : State) {ws : List ℤ} {xs : List Fraction} {
   unfolding ledgerStep wetsStep
   area-good e d =
       rw e
-      (makes xs b tt
+      (makes xs b m tt
       (record {
         count = same-length d;
         wet-count = refl;
@@ -144,19 +147,20 @@ module _ (sheets : List ℕ) (st : State) {ws : List ℤ} {xs : List Fraction} {
   unfolding ledgerStep wetsStep
   good (refuses {event} {number} other n) = refusal number b n (unasked event number) h k (rw (other .0))
   good (malformed {kind}) = malformed-good kind (eqb kind 6) refl
-  good (loads e w) = makes [] false tt tt (record { sheet = w; zero = omega arith; span-low = omega arith; span-high = omega arith; gas = refl }) idle (rw e)
-  good (zeroes n) = makes [] false tt tt (record { sheet = h .sheet; zero = n; span-low = h .span-low; span-high = h .span-high; gas = h .gas }) idle refl
-  good (spans l u) = makes [] false tt tt (record { sheet = h .sheet; zero = h .zero; span-low = l; span-high = u; gas = h .gas }) idle refl
-  good (refers e) = makes [] false tt tt (record { sheet = h .sheet; zero = h .zero; span-low = h .span-low; span-high = h .span-high; gas = e }) idle refl
-  good absolute = makes [] false tt tt (record { sheet = h .sheet; zero = h .zero; span-low = h .span-low; span-high = h .span-high; gas = refl }) idle refl
+  good (loads e w) = makes [] false 0 tt tt (record { sheet = w; zero = omega arith; span-low = omega arith; span-high = omega arith; gas = refl }) idle (rw e)
+  good (zeroes n) = makes [] false 0 tt tt (record { sheet = h .sheet; zero = n; span-low = h .span-low; span-high = h .span-high; gas = h .gas }) idle refl
+  good (spans l u) = makes [] false 0 tt tt (record { sheet = h .sheet; zero = h .zero; span-low = l; span-high = u; gas = h .gas }) idle refl
+  good (refers e) = makes [] false 0 tt tt (record { sheet = h .sheet; zero = h .zero; span-low = h .span-low; span-high = h .span-high; gas = e }) idle refl
+  good absolute = makes [] false 0 tt tt (record { sheet = h .sheet; zero = h .zero; span-low = h .span-low; span-high = h .span-high; gas = refl }) idle refl
   good (samples {at} {r} y) =
       let x = accepted-in st at (searchedFor st at) (sym (same-sample st at (agrees-in st at f)) ∙ given-in _ _ _ y) in
-      let w = sample-worth st xs b (h .sheet) at x in
+      let w = sample-worth st xs b m (h .sheet) at x in
       let v = exactValue g at r in
-      makes (takenAtEnd xs b v) (takenRuns xs b) tt (w .holds) h (keeps-counted k (w .near) (wet-in (h .sheet) x)) (taken-is v)
+      makes (takenAtEnd xs b v) (takenRuns xs b m) m tt (w .holds) h (keeps-counted k (w .near) (wet-in (h .sheet) x)) (taken-is v)
   good (closes {number = number} n) = refusal number false n tt h (keeps-closed k) refl
-  good starts = makes [] true tt tt h started refl
-  good stops = makes xs false tt tt h (keeps-closed k) refl
+  good (starts long) = makes [] true _ tt tt h (started Chart.Long) refl
+  good (starts short) = makes [] true _ tt tt h (started Chart.Short) refl
+  good stops = makes xs false m tt tt h (keeps-closed k) refl
   good (totals t) = area-good (keeps-tally k t .0) (keeps-tally k t .1)
 
   pub entry-good : (entry : Entry) → Good sheets g ws entry (rules sheets st entry)

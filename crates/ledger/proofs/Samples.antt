@@ -33,8 +33,8 @@ use Rattle.ledger.specs.Ledger.{Ledger, exactValue}
 use Rattle.ledger.specs.Claim.{AtSignal, SampleHolds}
 
 -- the ledger beside a state
-abbrev pub ledgerAt : State → List Fraction → Bool → Ledger
-ledgerAt st xs b = record { sheet = st .loaded; q = st .q; s = st .s; mode = st .mode; series = xs; runs = b }
+abbrev pub ledgerAt : State → List Fraction → Bool → ℕ → Ledger
+ledgerAt st xs b limit = record { sheet = st .loaded; q = st .q; s = st .s; mode = st .mode; series = xs; runs = b; limit = limit }
 
 -- an accepted sample holds, and lies within 1,800 of its exact value in either mode
 pub record Worth (g : Ledger) (at : Measurement) (r : ℕ) (wet dry : ℤ) : Type 0 where
@@ -66,10 +66,10 @@ module _ (s : Sheet) (okS : SheetOk s) (at : Measurement) (gas : Cylinder) (okR 
       omega (arith, of-lt (is-nat r) (is-nat (s .k)) (accepted s (pos r) a (h .c) (h .value) .below-k))
 
 -- ---- by the mode
-module _ (st : State) (xs : List Fraction) (b : Bool) (s : Sheet) (okS : SheetOk s) (loaded : st .loaded ≡ Loaded.One s) (at : Measurement)
+module _ (st : State) (xs : List Fraction) (b : Bool) (limit : ℕ) (s : Sheet) (okS : SheetOk s) (loaded : st .loaded ≡ Loaded.One s) (at : Measurement)
     {r : ℕ} {wet dry : ℤ} where
   worth : (mode : Mode) → st .mode ≡ mode → AcceptedOn s (st .q) (st .s) mode at (searchedOf s mode (airOf at)) r wet dry
-      → Worth (ledgerAt st xs b) at r wet dry
+      → Worth (ledgerAt st xs b limit) at r wet dry
   worth Mode.Absolute m x =
       let okA = input-ok at (x .input) .air in
       let near = absolute-distance s okS (airOf at) okA (at .raw) (st .q) (st .s) wet (x .wet-is) in
@@ -93,9 +93,9 @@ module _ (st : State) (xs : List Fraction) (b : Bool) (s : Sheet) (okS : SheetOk
       }
 
 -- the sample under whatever is loaded, with what a search finds there
-pub sample-worth : (st : State) (xs : List Fraction) (b : Bool) → loadedWithin (st .loaded) ≡ true → (at : Measurement) {r : ℕ} {wet dry : ℤ}
-    → AcceptedIn st at (searchedFor st at) r wet dry → Worth (ledgerAt st xs b) at r wet dry
-sample-worth st xs b w at {r} {wet} {dry} x =
+pub sample-worth : (st : State) (xs : List Fraction) (b : Bool) (limit : ℕ) → loadedWithin (st .loaded) ≡ true → (at : Measurement) {r : ℕ} {wet dry : ℤ}
+    → AcceptedIn st at (searchedFor st at) r wet dry → Worth (ledgerAt st xs b limit) at r wet dry
+sample-worth st xs b limit w at {r} {wet} {dry} x =
     let f = ap (λ (l : Loaded). searchedUnder l (st .mode) at) (x .loaded) in
-    worth st xs b (x .sheet) (sheet-in w (x .loaded)) (x .loaded) at (st .mode) refl
+    worth st xs b limit (x .sheet) (sheet-in w (x .loaded)) (x .loaded) at (st .mode) refl
     (subst (λ (y : Found). AcceptedOn (x .sheet) (st .q) (st .s) (st .mode) at y r wet dry) f (x .sample))

@@ -16,6 +16,7 @@ use Rattle.exact.specs.Fraction.{Fraction, LiesWithin}
 use Rattle.exact.specs.Bounds.{againstBound}
 use Rattle.exact.specs.Area.{firstOf, lastOf, sumOf, areaOf, EachWithin, empty}
 use Rattle.exact.proofs.Area.{same-length, each-append, by-the-letter}
+use Rattle.counting.specs.declared.Chart.{Chart}
 use Rattle.counting.specs.declared.Tally.{Tally}
 use Rattle.counting.specs.declared.Integration.{Integration}
 use Rattle.counting.specs.Integration.{integrationLimit, emptyTally, talliedOf, countedOf, closedOf, tallyArea}
@@ -74,56 +75,68 @@ small-sum : {ws : List ℤ} → EachSmall ws → natAbs (sumOf ws) ≤ length ws
 small-sum none = omega arith
 small-sum (more {w} {ws} h r) = omega (arith, abs-add w (sumOf ws), small-sum r)
 
--- ---- the integration beside the wet values answered and the series
-pub data Keeps : Integration → List ℤ → List Fraction → Bool → Type 0 where
-  idle : Keeps Integration.Idle [] [] false
-  running : {ws : List ℤ} {xs : List Fraction} → EachWithin ws xs → EachSmall ws → length ws < integrationLimit → Keeps (Integration.Running (tallyOf ws)) ws xs true
-  closed : {ws : List ℤ} {xs : List Fraction} → EachWithin ws xs → EachSmall ws → length ws ≤ integrationLimit → Keeps (Integration.Closed (tallyOf ws)) ws xs false
+-- ---- the integration beside the wet values answered and the series: a running one and the series have the same limit
+pub data Keeps : Integration → List ℤ → List Fraction → Bool → ℕ → Type 0 where
+  idle : {limit : ℕ} → Keeps Integration.Idle [] [] false limit
+  running : {chart : Chart} {ws : List ℤ} {xs : List Fraction} → EachWithin ws xs → EachSmall ws → length ws < integrationLimit chart
+      → Keeps (Integration.Running chart (tallyOf ws)) ws xs true (integrationLimit chart)
+  closed : {ws : List ℤ} {xs : List Fraction} {limit : ℕ} → EachWithin ws xs → EachSmall ws → length ws ≤ 600000
+      → Keeps (Integration.Closed (tallyOf ws)) ws xs false limit
 
-pub started : Keeps (Integration.Running emptyTally) [] [] true
-started = running empty none (omega arith)
+pub started : (chart : Chart) → Keeps (Integration.Running chart emptyTally) [] [] true (integrationLimit chart)
+started Chart.Long = running {chart = Chart.Long} empty none (omega arith)
+started Chart.Short = running {chart = Chart.Short} empty none (omega arith)
 
-pub keeps-closed : {i : Integration} {ws : List ℤ} {xs : List Fraction} {b : Bool} → Keeps i ws xs b → Keeps (closedOf i) ws xs false
+-- no chart has a higher limit than the long one
+limit-most : (chart : Chart) → integrationLimit chart ≤ 600000
+limit-most Chart.Long = omega arith
+limit-most Chart.Short = omega arith
+
+below-most : (chart : Chart) {n : ℕ} → n ≤ integrationLimit chart → n ≤ 600000
+below-most chart l = omega (arith, limit-most chart)
+
+pub keeps-closed : {i : Integration} {ws : List ℤ} {xs : List Fraction} {b : Bool} {limit : ℕ} → Keeps i ws xs b limit → Keeps (closedOf i) ws xs false limit
 keeps-closed idle = idle
-keeps-closed (running e r l) = closed e r (le-of-lt l)
+keeps-closed (running {chart} e r l) = closed e r (below-most chart (le-of-lt l))
 keeps-closed (closed e r l) = closed e r l
 
-module _ {ws : List ℤ} {xs : List Fraction} (e : EachWithin ws xs) (r : EachSmall ws) where
-  after : (t : Bool) → (t ≡ false → length ws < integrationLimit) → length ws ≤ integrationLimit
-      → Keeps (cond t (Integration.Closed (tallyOf ws)) (Integration.Running (tallyOf ws))) ws xs (not t)
-  after true h l = closed e r l
+module _ (chart : Chart) {ws : List ℤ} {xs : List Fraction} (e : EachWithin ws xs) (r : EachSmall ws) where
+  after : (t : Bool) → (t ≡ false → length ws < integrationLimit chart) → length ws ≤ integrationLimit chart
+      → Keeps (cond t (Integration.Closed (tallyOf ws)) (Integration.Running chart (tallyOf ws))) ws xs (not t) (integrationLimit chart)
+  after true h l = closed e r (below-most chart l)
   after false h l = running e r (h refl)
 
 -- what a list becomes that takes a value, the series running or not
 abbrev pub takenAtEnd : {A : Type 0} → List A → Bool → A → List A
 takenAtEnd xs b x = cond b (xs ++ (x ∷ [])) xs
 
-abbrev pub takenRuns : List Fraction → Bool → Bool
-takenRuns xs b = cond b (not (eqb (length xs + 1) integrationLimit)) false
+abbrev pub takenRuns : List Fraction → Bool → ℕ → Bool
+takenRuns xs b limit = cond b (not (eqb (length xs + 1) limit)) false
 
-pub keeps-counted : {i : Integration} {ws : List ℤ} {xs : List Fraction} {b : Bool} {w : ℤ} {x : Fraction} → Keeps i ws xs b
-    → LiesWithin w againstBound x → natAbs w ≤ 3000000000 → Keeps (countedOf i w) (takenAtEnd ws b w) (takenAtEnd xs b x) (takenRuns xs b)
+pub keeps-counted : {i : Integration} {ws : List ℤ} {xs : List Fraction} {b : Bool} {limit : ℕ} {w : ℤ} {x : Fraction} → Keeps i ws xs b limit
+    → LiesWithin w againstBound x → natAbs w ≤ 3000000000
+    → Keeps (countedOf i w) (takenAtEnd ws b w) (takenAtEnd xs b x) (takenRuns xs b limit) limit
 keeps-counted idle n h = idle
 keeps-counted (closed e r l) n h = closed e r l
-keeps-counted {ws = ws} {w = w} (running e r l) n h =
+keeps-counted {ws = ws} {w = w} (running {chart} e r l) n h =
     let m : length (ws ++ (w ∷ [])) ≡ length ws + 1 = length-append ws (w ∷ []) in
     rw (tallied ws w, ← same-length e)
-    (after (each-append e n) (small-append w r h) (eqb (length ws + 1) integrationLimit)
-    (λ t. let f : length ws + 1 ≡ integrationLimit → ⊥ = eqb-false _ _ t in omega arith) (omega arith))
+    (after chart (each-append e n) (small-append w r h) (eqb (length ws + 1) (integrationLimit chart))
+    (λ t. let f : length ws + 1 ≡ integrationLimit chart → ⊥ = eqb-false _ _ t in omega arith) (omega arith))
 
 -- ---- such an integration is within what the code can work with
-tally-within : (ws : List ℤ) → EachSmall ws → length ws ≤ integrationLimit → integrationWithin (Integration.Closed (tallyOf ws)) ≡ true
+tally-within : (ws : List ℤ) → EachSmall ws → length ws ≤ 600000 → integrationWithin (Integration.Closed (tallyOf ws)) ≡ true
 tally-within ws r l =
-    rw (le-leb (length ws) integrationLimit l, le-leb _ 3000000000 (small-at r 0), le-leb _ 3000000000 (small-at r (length ws - 1)))
+    rw (le-leb (length ws) 600000 l, le-leb _ 3000000000 (small-at r 0), le-leb _ 3000000000 (small-at r (length ws - 1)))
     (le-leb (natAbs (sumOf ws)) 1800000000000000 (omega (arith, small-sum r)))
 
-pub keeps-within : {i : Integration} {ws : List ℤ} {xs : List Fraction} {b : Bool} → Keeps i ws xs b → integrationWithin i ≡ true
+pub keeps-within : {i : Integration} {ws : List ℤ} {xs : List Fraction} {b : Bool} {limit : ℕ} → Keeps i ws xs b limit → integrationWithin i ≡ true
 keeps-within idle = refl
-keeps-within {ws = ws} (running e r l) = rw (tally-within ws r (le-of-lt l), lt-ltb (length ws) integrationLimit l)
+keeps-within {ws = ws} (running {chart} e r l) = rw (tally-within ws r (below-most chart (le-of-lt l)), lt-ltb (length ws) (integrationLimit chart) l)
 keeps-within {ws = ws} (closed e r l) = tally-within ws r l
 
 -- its tally, where it has one
-pub keeps-tally : {i : Integration} {ws : List ℤ} {xs : List Fraction} {b : Bool} {t : Tally} → Keeps i ws xs b → Tallied i t
+pub keeps-tally : {i : Integration} {ws : List ℤ} {xs : List Fraction} {b : Bool} {limit : ℕ} {t : Tally} → Keeps i ws xs b limit → Tallied i t
     → (t ≡ tallyOf ws) × EachWithin ws xs
 keeps-tally (running e r l) in-running = (refl, e)
 keeps-tally (closed e r l) in-closed = (refl, e)

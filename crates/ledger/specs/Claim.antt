@@ -101,6 +101,7 @@ LedgerHolds g ws (Entry.Known (Event.Reference cylinder e)) a = Unit
 LedgerHolds g ws (Entry.Known Event.Absolute) a = Unit
 LedgerHolds g ws (Entry.Known Event.Start) a = Unit
 LedgerHolds g ws (Entry.Known Event.Stop) a = Unit
+LedgerHolds g ws (Entry.Known Event.StartShort) a = Unit
 LedgerHolds g ws (Entry.Malformed kind) a = refusalOf a ≡ 11
 
 -- demands 1 and 2 at the event: answer and state after are the rules' at the state before; and the ledger's facts

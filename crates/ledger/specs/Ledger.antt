@@ -21,7 +21,7 @@ use Rattle.rules.specs.Answer.{mOf, accepted, kindOf}
 use Rattle.sheets.specs.Sheets.{asSheet}
 use Rattle.sampling.specs.Sample.{airOf}
 
--- a sheet, Q, S, a mode, and a series of exact values that runs or doesn't
+-- a sheet, Q, S, a mode, and a series of exact values that runs or doesn't; since R-10 the series knows how many values it takes
 pub record Ledger : Type 0 where
   pub sheet : Loaded
   pub q : ℤ
@@ -29,17 +29,19 @@ pub record Ledger : Type 0 where
   pub mode : Mode
   pub series : List Fraction
   pub runs : Bool
+  pub limit : ℕ
 
--- the settings with the series empty and not running
+-- the settings with the series empty and not running; it takes no value before a start says how many
 abbrev pub settled : Loaded → ℤ → ℕ → Mode → Ledger
-settled sheet q s mode = record { sheet = sheet; q = q; s = s; mode = mode; series = []; runs = false }
+settled sheet q s mode = record { sheet = sheet; q = q; s = s; mode = mode; series = []; runs = false; limit = 0 }
 
 -- it begins with no sheet, Q = 0, S = 1,000,000, absolute, the series empty and not running
 abbrev pub freshLedger : Ledger
 freshLedger = settled Loaded.Nothing (pos 0) 1000000 Mode.Absolute
 
+-- the same with another series; its limit is the one that its start set
 abbrev pub withSeries : Ledger → List Fraction → Bool → Ledger
-withSeries g series runs = record { sheet = g .sheet; q = g .q; s = g .s; mode = g .mode; series = series; runs = runs }
+withSeries g series runs = record { sheet = g .sheet; q = g .q; s = g .s; mode = g .mode; series = series; runs = runs; limit = g .limit }
 
 -- ---- the exact value of raw, P, T and e under a sheet, Q, S and mode, with the answer's R against a reference
 
@@ -61,14 +63,21 @@ exactValue g at r = exactOn (g .sheet) g at r
 abbrev pub refusedBy : Ledger → Entry → Ledger
 refusedBy g entry = cond (eqb (kindOf entry) 6) (withSeries g (g .series) false) g
 
--- how many values a series takes: the ledger's own number, and none of the engine's
-abbrev pub seriesLimit : ℕ
-seriesLimit = 600000
+-- how many values a series takes: after a start 600,000, after a short start 6,000 (R-10); the ledger's own numbers, and none of the engine's
+abbrev pub longSeries : ℕ
+longSeries = 600000
 
--- a running series takes the value at its end; after the 600,000th it no longer runs
+abbrev pub shortSeries : ℕ
+shortSeries = 6000
+
+-- the series is empty and runs
+abbrev pub startedWith : Ledger → ℕ → Ledger
+startedWith g limit = record { sheet = g .sheet; q = g .q; s = g .s; mode = g .mode; series = []; runs = true; limit = limit }
+
+-- a running series takes the value at its end; after as many as its limit it no longer runs
 abbrev pub taken : Ledger → Fraction → Ledger
 taken g x =
-    cond (g .runs) (withSeries g (g .series ++ (x ∷ [])) (not (eqb (length (g .series) + 1) seriesLimit))) g
+    cond (g .runs) (withSeries g (g .series ++ (x ∷ [])) (not (eqb (length (g .series) + 1) (g .limit)))) g
 
 abbrev pub acceptedBy : List ℕ → Ledger → Entry → Answer → Ledger
 acceptedBy sheets g (Entry.Known (Event.Load index)) a = settled (Loaded.One (asSheet (sheetAt sheets (24 * index)))) (pos 0) 1000000 Mode.Absolute
@@ -77,9 +86,10 @@ acceptedBy sheets g (Entry.Known (Event.Span at cylinder)) a = settled (g .sheet
 acceptedBy sheets g (Entry.Known (Event.Reference cylinder e)) a = settled (g .sheet) (g .q) (g .s) (Mode.Against (record { c = cylinder; e = e }))
 acceptedBy sheets g (Entry.Known Event.Absolute) a = settled (g .sheet) (g .q) (g .s) Mode.Absolute
 acceptedBy sheets g (Entry.Known (Event.Sample at)) a = taken g (exactValue g at (mOf a))
-acceptedBy sheets g (Entry.Known Event.Start) a = withSeries g [] true
+acceptedBy sheets g (Entry.Known Event.Start) a = startedWith g longSeries
 acceptedBy sheets g (Entry.Known Event.Stop) a = withSeries g (g .series) false
 acceptedBy sheets g (Entry.Known Event.Area) a = g
+acceptedBy sheets g (Entry.Known Event.StartShort) a = startedWith g shortSeries
 -- a malformed entry is never accepted
 acceptedBy sheets g (Entry.Malformed kind) a = g
 

@@ -8,7 +8,7 @@ use Rattle.rules.specs.declared.Entry.{Entry}
 use Rattle.rules.specs.declared.Answer.{Answer}
 use Rattle.rules.specs.Answer.{xOf, accepted}
 
--- accepted: a sample's wet value, x of its answer, is taken at the end if the series runs; kinds 1 to 5 and a start empty the list
+-- accepted: a sample's wet value, x of its answer, is taken at the end if the series runs; kinds 1 to 5 and both starts empty the list
 abbrev pub wetsBy : Bool → List ℤ → Entry → Answer → List ℤ
 wetsBy runs ws (Entry.Known (Event.Load index)) a = []
 wetsBy runs ws (Entry.Known (Event.Zero raw)) a = []
@@ -19,6 +19,7 @@ wetsBy runs ws (Entry.Known (Event.Sample at)) a = cond runs (ws ++ (xOf a ∷ [
 wetsBy runs ws (Entry.Known Event.Start) a = []
 wetsBy runs ws (Entry.Known Event.Stop) a = ws
 wetsBy runs ws (Entry.Known Event.Area) a = ws
+wetsBy runs ws (Entry.Known Event.StartShort) a = []
 -- a malformed entry is never accepted
 wetsBy runs ws (Entry.Malformed kind) a = ws
 

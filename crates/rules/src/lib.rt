@@ -1,4 +1,4 @@
-// Document 01, "Engine and events": the state, the nine kinds of event with their answers, and the rules of kinds 1 to 5.
+// Document 01, "Engine and events": the state, its nine kinds of event and R-10's kind 10 with their answers, and the rules of kinds 1 to 5.
 ghost use mathlib.Core.Path.{_≡_};
 ghost use Rattle.rules.specs.Rules.{fresh};
 use counting::Integration;
@@ -25,7 +25,7 @@ pub struct State {
     pub integration: Integration,
 }
 
-// The nine kinds, each with its own fields at the file's widths.
+// The kinds 1 to 10 in their order, each with its own fields at the file's widths. A short start is for a short chart (R-10).
 pub enum Event {
     Load { index: u32 },
     Zero { raw: i32 },
@@ -36,6 +36,7 @@ pub enum Event {
     Start,
     Stop,
     Area,
+    StartShort,
 }
 
 // An element of a list of events: a known event, or one that is malformed, of which the kind byte is known.

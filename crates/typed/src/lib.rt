@@ -36,6 +36,7 @@ pub fn event_record(event: Event) -> EventRecord
         Event::Start => event_with(7, 0, 0, 0, 0, 0),
         Event::Stop => event_with(8, 0, 0, 0, 0, 0),
         Event::Area => event_with(9, 0, 0, 0, 0, 0),
+        Event::StartShort => event_with(10, 0, 0, 0, 0, 0),
     }
 }
 

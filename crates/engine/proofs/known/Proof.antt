@@ -33,11 +33,14 @@ returns-8 c = rw (c .stop .ensures, c .before .enum-told3 .given .1)
 returns-9 : tie.Need-returns-9
 returns-9 c = rw (c .area .ensures, c .before .enum-told4 .given .1)
 
+returns-10 : tie.Need-returns-10
+returns-10 c = rw (c .start2 .ensures, c .before .enum-told5 .given .1)
+
 pub known-spec : {M : Type 1} → statement M
 known-spec =
     tie.close
     (tie.spec
     (λ c. search needs) (λ c κs. search needs) (λ c. search needs) (λ c κs. search needs) (λ c. search needs) (λ c κs. search needs)
     (λ c. search needs) (λ c κs. search needs) (λ c. search needs) (λ c κs. search needs) (λ c. search needs) (λ c κs. search needs)
-    (λ c. search needs) (λ c κs. search needs) (λ c. search needs) (λ c κs. search needs) (λ c. search needs) (λ c κs. search needs) returns
-    returns-2 returns-3 returns-4 returns-5 returns-6 returns-7 returns-8 returns-9)
+    (λ c. search needs) (λ c κs. search needs) (λ c. search needs) (λ c κs. search needs) (λ c. search needs) (λ c κs. search needs)
+    (λ c. search needs) (λ c κs. search needs) returns returns-2 returns-3 returns-4 returns-5 returns-6 returns-7 returns-8 returns-9 returns-10)

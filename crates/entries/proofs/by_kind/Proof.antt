@@ -39,11 +39,14 @@ returns-9 : tie.Need-returns-9
 returns-9 c = rw (c .known-if8 .ensures, c .before .no-fields4 .ensures, c .before .before .match .keys9)
 
 returns-10 : tie.Need-returns-10
-returns-10 c =
+returns-10 c = rw (c .known-if9 .ensures, c .before .no-fields5 .ensures, c .before .before .match .keys10)
+
+returns-11 : tie.Need-returns-11
+returns-11 c =
     let r = c .match .rest in
-    let s = r .0 .0 .0 .0 in
+    let s = r .0 .0 .0 .0 .0 in
     rw (ne-eqb _ _ (s .0 .0 .0 .0 .1), ne-eqb _ _ (s .0 .0 .0 .1), ne-eqb _ _ (s .0 .0 .1), ne-eqb _ _ (s .0 .1), ne-eqb _ _ (s .1))
-    (rw (ne-eqb _ _ (r .0 .0 .0 .1), ne-eqb _ _ (r .0 .0 .1), ne-eqb _ _ (r .0 .1), ne-eqb _ _ (r .1)))
+    (rw (ne-eqb _ _ (r .0 .0 .0 .0 .1), ne-eqb _ _ (r .0 .0 .0 .1), ne-eqb _ _ (r .0 .0 .1), ne-eqb _ _ (r .0 .1), ne-eqb _ _ (r .1)))
 
 pub by-kind-spec : {M : Type 1} → statement M
 by-kind-spec =
@@ -53,4 +56,5 @@ by-kind-spec =
     (λ c κs. search needs) (λ c κs. search needs) (λ c κs. search needs) (λ c κs. search needs) (λ c κs. search needs)
     (λ c κs. search needs) (λ c κs. search needs) (λ c κs. search needs) (λ c κs. search needs) (λ c κs. search needs)
     (λ c κs. search needs) (λ c κs. search needs) (λ c κs. search needs) (λ c κs. search needs) (λ c κs. search needs)
-    returns returns-2 returns-3 returns-4 returns-5 returns-6 returns-7 returns-8 returns-9 returns-10)
+    (λ c κs. search needs) (λ c κs. search needs)
+    returns returns-2 returns-3 returns-4 returns-5 returns-6 returns-7 returns-8 returns-9 returns-10 returns-11)

@@ -42,6 +42,9 @@ returns-8 c = (rw (c .event-with8 .ensures .0, c .before .enum-told3 .given .1),
 returns-9 : tie.Need-returns-9
 returns-9 c = (rw (c .event-with9 .ensures .0, c .before .enum-told4 .given .1), c .event-with9 .ensures .1)
 
+returns-10 : tie.Need-returns-10
+returns-10 c = (rw (c .event-with10 .ensures .0, c .before .enum-told5 .given .1), c .event-with10 .ensures .1)
+
 pub event-record-spec : {M : Type 1} → statement M
 event-record-spec =
     tie.close
@@ -49,4 +52,4 @@ event-record-spec =
     (λ c. search needs) (λ c κs. search needs) (λ c. search needs) (λ c κs. search needs) (λ c. search needs) (λ c κs. search needs)
     (λ c. search needs) (λ c κs. search needs) (λ c. search needs) (λ c κs. search needs) (λ c. search needs) (λ c κs. search needs)
     (λ c. search needs) (λ c κs. search needs) (λ c. search needs) (λ c κs. search needs) (λ c. search needs) (λ c κs. search needs)
-    returns returns-2 returns-3 returns-4 returns-5 returns-6 returns-7 returns-8 returns-9)
+    (λ c. search needs) (λ c κs. search needs) returns returns-2 returns-3 returns-4 returns-5 returns-6 returns-7 returns-8 returns-9 returns-10)

@@ -12,7 +12,7 @@ use Rattle.rounding.proofs.Tests.{answered-no, answered-yes}
 use Rattle.sampling.specs.declared.Measurement.{Measurement}
 use Rattle.rules.specs.declared.State.{State}
 use Rattle.rules.specs.declared.Event.{Event}
-use Rattle.rules.specs.declared.Event.the-variants.{Load, Zero, Span, Reference, Absolute, Sample, Start, Stop, Area}
+use Rattle.rules.specs.declared.Event.the-variants.{Load, Zero, Span, Reference, Absolute, Sample, Start, Stop, Area, StartShort}
 use Rattle.rules.specs.declared.Entry.{Entry}
 use Rattle.rules.specs.declared.Stepped.{Stepped}
 use Rattle.rules.specs.Answer.{refusalOf}
@@ -33,7 +33,7 @@ returns c =
 
 -- what the other arm of a match on a sample knows: the tag is another's
 abbrev others : List ℕ
-others = 0 ∷ 1 ∷ 2 ∷ 3 ∷ 4 ∷ 6 ∷ 7 ∷ 8 ∷ []
+others = 0 ∷ 1 ∷ 2 ∷ 3 ∷ 4 ∷ 6 ∷ 7 ∷ 8 ∷ 9 ∷ []
 
 other : (st : State) (event : Event) → OneOf others (tagOf the-type event) → Ground.Nothing ≡ entryGround st (Entry.Known event)
 other st (Load index) t = refl
@@ -45,6 +45,7 @@ other st (Sample at) t = absurd (miss others 5 tt t)
 other st Start t = refl
 other st Stop t = refl
 other st Area t = refl
+other st StartShort t = refl
 
 returns-3 : tie.Need-returns-3
 returns-3 c = rw (c .before .before .entry .given .1) (other (c .before .before .before .before .before .before .before .args .st) (c .before .before .entry .given .0 .0) (c .match2 .keys2))

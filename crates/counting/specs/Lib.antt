@@ -1,2 +1,3 @@
 pub mod Integration
 pub mod Limits
+pub mod Charts

@@ -1,22 +1,28 @@
 -- A record that the code works with is stepped by the rules, and no other gets an accepted answer. A step sees the sheets through the lookup of
--- its load alone, and an accepted load forgets the state before it. Assumes nothing.
+-- its load alone, an accepted load forgets the state before it, and a short start is answered as a start is. Assumes nothing.
 use mathlib.Core.Bool.{Bool, true, false, cond}
 use mathlib.Core.List.{List}
 use mathlib.Core.Path.{_≡_, refl, sym, subst, _∙_}
 use Prim.Native.Nat.{ℕ}
 use lib.Dec.{T, eqb}
+use Rattle.curve.specs.declared.Sheet.{Sheet}
+use Rattle.counting.specs.declared.Chart.{Chart}
+use Rattle.counting.specs.Charts.{started}
 use Rattle.sheets.specs.declared.Lookup.{Lookup}
 use Rattle.sheets.specs.Sheets.{lookupRefusal, lookupOf}
 use Rattle.sheets.proofs.Numbers.{lookup-number}
+use Rattle.rules.specs.declared.Loaded.{Loaded}
 use Rattle.rules.specs.declared.State.{State}
 use Rattle.rules.specs.declared.Event.{Event}
 use Rattle.rules.specs.declared.Entry.{Entry}
+use Rattle.rules.specs.declared.Answer.{Answer}
+use Rattle.rules.specs.declared.Stepped.{Stepped}
 use Rattle.rules.specs.Answer.{refusalOf, accepted}
-use Rattle.rules.specs.Rules.{refused, loadBy}
-use Rattle.events.specs.Events.{rules}
+use Rattle.rules.specs.Rules.{answered, refused, needingSheet, loadBy}
+use Rattle.events.specs.Events.{withIntegration, rules}
 use Rattle.rules.specs.Limits.{workable}
 use Rattle.engine.specs.Step.{stepOf}
-use Rattle.engine.specs.Laws.{loadAt, isLoad, SeesLookup, LoadForgets}
+use Rattle.engine.specs.Laws.{loadAt, isLoad, SeesLookup, LoadForgets, StartsAlike}
 
 -- ---- the rules, or refusal 1
 module _ (sheets : List ℕ) (st : State) (entry : Entry) where
@@ -79,3 +85,32 @@ module _ (sheets : List ℕ) (index : ℕ) where
   pub load-forgets : LoadForgets sheets index
   load-forgets =
       record { refusal = λ st e. rw (by-rules sheets st (loadAt index) e) (numbered st (lookupOf sheets index) refl); forgets = forget }
+
+-- ---- what the two starts leave: refusal 1 without a sheet, or at a record that the code does not work with
+module _ (sheets : List ℕ) (st : State) where
+  abbrev given : Bool → Loaded → Chart → Stepped
+  given w l chart = cond w (needingSheet l st (λ (s : Sheet). answered Answer.Done (withIntegration st (started chart)))) (refused st 1)
+
+  alike : (w : Bool) (l : Loaded) → given w l Chart.Short .answer ≡ given w l Chart.Long .answer
+  alike true Loaded.Nothing = refl
+  alike true (Loaded.One s) = refl
+  alike false l = refl
+
+  stays : (w : Bool) (l : Loaded) (chart : Chart) → accepted (given w l chart .answer) ≡ false → given w l chart .state ≡ st
+  stays true Loaded.Nothing chart e = refl
+  stays true (Loaded.One s) chart e = absurd (subst T e tt)
+  stays false l chart e = refl
+
+  begun : (w : Bool) (l : Loaded) (chart : Chart) → accepted (given w l chart .answer) ≡ true → given w l chart .state ≡ withIntegration st (started chart)
+  begun true Loaded.Nothing chart e = absurd (subst T (sym e) tt)
+  begun true (Loaded.One s) chart e = refl
+  begun false l chart e = absurd (subst T (sym e) tt)
+
+  pub starts-alike : StartsAlike sheets st
+  unfolding stepOf
+  starts-alike =
+      record {
+        answer = alike (workable st) (st .loaded);
+        long = record { refused = stays (workable st) (st .loaded) Chart.Long; begun = begun (workable st) (st .loaded) Chart.Long };
+        short = record { refused = stays (workable st) (st .loaded) Chart.Short; begun = begun (workable st) (st .loaded) Chart.Short };
+      }

@@ -1,15 +1,18 @@
--- Two laws of a step: what it sees of the list of sheets, and that an accepted load leaves nothing of the state before it. Assumes
--- nothing.
+-- Three laws of a step: what it sees of the list of sheets; that an accepted load leaves nothing of the state before it; and that kind 10 is
+-- accepted and refused as kind 7 is (R-10). Assumes nothing.
 use Prim.Native.Nat.{ℕ}
 use mathlib.Core.Bool.{Bool, true, false}
 use mathlib.Core.List.{List}
 use mathlib.Core.Path.{_≡_}
+use Rattle.counting.specs.declared.Chart.{Chart}
+use Rattle.counting.specs.Charts.{started}
 use Rattle.sheets.specs.Sheets.{lookupRefusal, lookupOf}
 use Rattle.rules.specs.declared.State.{State}
 use Rattle.rules.specs.declared.Event.{Event}
 use Rattle.rules.specs.declared.Entry.{Entry}
 use Rattle.rules.specs.Answer.{refusalOf, accepted}
 use Rattle.rules.specs.Limits.{workable}
+use Rattle.events.specs.Events.{withIntegration}
 use Rattle.engine.specs.Step.{stepOf}
 
 abbrev pub loadAt : ℕ → Entry
@@ -40,3 +43,16 @@ pub record LoadForgets (sheets : List ℕ) (index : ℕ) : Type 0 where
   pub refusal : (st : State) → workable st ≡ true → refusalOf (stepOf sheets st (loadAt index) .answer) ≡ lookupRefusal (lookupOf sheets index)
   pub forgets : (st other : State) → accepted (stepOf sheets st (loadAt index) .answer) ≡ true → workable other ≡ true
       → stepOf sheets other (loadAt index) ≡ stepOf sheets st (loadAt index)
+
+-- of an event that starts an integration for a chart: refused, the state stays; accepted, an integration for this chart runs that has counted
+-- nothing, whatever stood before, one that runs too, and all else stays
+pub record Begins (sheets : List ℕ) (st : State) (event : Event) (chart : Chart) : Type 0 where
+  pub refused : accepted (stepOf sheets st (Entry.Known event) .answer) ≡ false → stepOf sheets st (Entry.Known event) .state ≡ st
+  pub begun : accepted (stepOf sheets st (Entry.Known event) .answer) ≡ true
+      → stepOf sheets st (Entry.Known event) .state ≡ withIntegration st (started chart)
+
+-- R-10, at every record, altered ones too: a short start gets the answer that a start gets there, and each begins for its chart
+pub record StartsAlike (sheets : List ℕ) (st : State) : Type 0 where
+  pub answer : stepOf sheets st (Entry.Known Event.StartShort) .answer ≡ stepOf sheets st (Entry.Known Event.Start) .answer
+  pub long : Begins sheets st Event.Start Chart.Long
+  pub short : Begins sheets st Event.StartShort Chart.Short

@@ -10,7 +10,7 @@ use crate::plan::Writer;
 
 /// An event that goes well with the bench sheet, and the offsets of the fields that document
 /// 01 gives to its kind. Every other byte after the first must be zero.
-pub const KINDS: [(Event, &[usize]); 9] = [
+pub const KINDS: [(Event, &[usize]); 10] = [
     (Event::Load { index: 0 }, &[8]),
     (Event::Zero { raw: 1_000 }, &[4]),
     (
@@ -23,7 +23,13 @@ pub const KINDS: [(Event, &[usize]); 9] = [
     (Event::Start, &[]),
     (Event::Stop, &[]),
     (Event::Area, &[]),
+    (Event::StartShort, &[]),
 ];
+
+/// Whether there is such a kind.
+pub fn is_known(kind: u8) -> bool {
+    (1..=KINDS.len()).contains(&usize::from(kind))
+}
 
 /// A session file and what is owed to each of its events: the refusal number, or nothing in
 /// particular but not 11.
@@ -67,12 +73,14 @@ impl Spoilt {
     }
 }
 
-/// Every kind's event with each bit after its first byte turned over, one at a time, behind
-/// an event that loads the sheet; and every kind that is none.
+/// Every kind's event, as it is and with each bit after its first byte turned over, one at a time,
+/// behind an event that loads the sheet; and every kind that is none.
 fn spoilt_events() -> Spoilt {
     let mut events = vec![EventRecord::of(&KINDS[0].0)];
     let mut owed = vec![Some(0)];
     for (event, fields) in KINDS {
+        events.push(EventRecord::of(&event));
+        owed.push(None);
         for (at, bit) in (1..RECORD_BYTES).flat_map(|at| (0..8).map(move |bit| (at, bit))) {
             let mut bytes = EventRecord::of(&event).to_bytes();
             bytes[at] ^= 1 << bit;
@@ -81,7 +89,7 @@ fn spoilt_events() -> Spoilt {
             owed.push(if has_field { None } else { Some(11) });
         }
     }
-    for kind in (0..=255).filter(|kind| !(1..=9).contains(kind)) {
+    for kind in (0..=255).filter(|kind| !is_known(*kind)) {
         events.push(EventRecord { kind, ..EventRecord::default() });
         owed.push(Some(11));
     }

@@ -116,11 +116,36 @@ fn span_to_the_cylinder() {
 #[test]
 fn area_of_three_readings_and_of_one() {
     let sheets = [bench::sheet()];
-    let start = [LOAD, REFERENCE, Event::Start];
-    let three = [&start[..], &[sample(0), sample(10_000_000), sample(0), Event::Area]].concat();
-    assert_eq!(last_answer(&sheets, &three), accepted(9, 3, 776_320_000, 0));
-    let one = [&start[..], &[sample(10_000_000), Event::Stop, Event::Area]].concat();
-    assert_eq!(last_answer(&sheets, &one), accepted(9, 1, 0, 0));
+    for start in [Event::Start, Event::StartShort] {
+        let start = [LOAD, REFERENCE, start];
+        let three = [&start[..], &[sample(0), sample(10_000_000), sample(0), Event::Area]].concat();
+        assert_eq!(last_answer(&sheets, &three), accepted(9, 3, 776_320_000, 0));
+        let one = [&start[..], &[sample(10_000_000), Event::Stop, Event::Area]].concat();
+        assert_eq!(last_answer(&sheets, &one), accepted(9, 1, 0, 0));
+    }
+}
+
+/// Document 02's R-10: a short start without a sheet, alone, while a long integration runs, while a
+/// short one does, and after a closed one. Each begins anew.
+#[test]
+fn short_starts() {
+    const SHORT: Event = Event::StartShort;
+    let readings = [sample(0), sample(10_000_000), Event::Area];
+    let begun = [&[SHORT][..], &readings, &[Event::Start, sample(0)]].concat();
+    let anew = [&[SHORT, Event::Area][..], &readings, &[SHORT], &readings, &[Event::Stop]].concat();
+    let events = [&[SHORT, LOAD, REFERENCE][..], &begun, &anew, &[SHORT, Event::Area]].concat();
+    let text = printed(&[bench::sheet()], &events);
+    let others: Vec<&str> = text
+        .lines()
+        .filter_map(|line| line.split_once(' '))
+        .map(|(_, answer)| answer)
+        .filter(|answer| !answer.starts_with("6 0 "))
+        .collect();
+    let area = "9 0 2 388160000 0";
+    let begun = ["10 0 0 0 0", area, "7 0 0 0 0"];
+    let anew = ["10 0 0 0 0", "9 10 0 0 0", area, "10 0 0 0 0", area, "8 0 0 0 0"];
+    let before = ["10 1 0 0 0", "1 0 0 0 0", "4 0 0 0 0"];
+    assert_eq!(others, [&before[..], &begun, &anew, &["10 0 0 0 0", "9 10 0 0 0"]].concat());
 }
 
 /// Document 02's R-5: a steady reading of 1,000 µmol/mol over three samples, where the class

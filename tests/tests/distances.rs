@@ -6,7 +6,8 @@ use std::path::Path;
 use std::time::Instant;
 
 use irga_tests::bench;
-use irga_tests::engine::{step, Answer, Entry, Event, SheetRecord, State, READINGS_LIMIT};
+use irga_tests::engine::READINGS_LIMIT;
+use irga_tests::engine::{step, Answer, Entry, Event, Integration, SheetRecord, State};
 use irga_tests::figures::{grouped, in_one_line};
 use irga_tests::file::{self, Session};
 use irga_tests::harness::{Campaign, Count};
@@ -40,7 +41,7 @@ fn assert_wide(count: &Count) {
     for status in [0, 12, 13] {
         assert!(count.statuses[status] > 0, "no run ended with status {status}");
     }
-    for kind in 1..=9 {
+    for kind in 1..=10 {
         let accepted = count.answers[kind][0];
         assert!(10 * accepted > count.sessions, "kind {kind}: {accepted} accepted");
     }
@@ -57,7 +58,7 @@ fn ledger_over_invented_sessions() {
     let seconds = began.elapsed().as_secs_f64();
     let pace = count.sessions as f64 / seconds;
     println!("{} sessions, {} events, {pace:.0} sessions a second", count.sessions, count.events);
-    for kind in 1..=9 {
+    for kind in 1..=10 {
         println!(
             "kind {kind}: accepted {}, then 1 to 11: {:?}",
             count.answers[kind][0],
@@ -120,6 +121,93 @@ fn an_integration_longer_than_any_file() {
     assert!(areas[1..].iter().all(|area| *area == areas[1]), "closed at 600,000");
     assert_eq!(feed(Event::Stop).refusal, 10);
     print(&met);
+}
+
+/// Engine and ledger side by side under the bench sheet.
+struct Beside {
+    state: State,
+    ledger: Ledger,
+    met: Distances,
+}
+
+impl Beside {
+    fn feed(&mut self, event: Event) -> Answer {
+        both(&mut self.state, &mut self.ledger, &mut self.met, event)
+    }
+
+    /// A start and so many samples, in changing rooms. The last twelve areas are held to the exact
+    /// area of n readings themselves, n being the number of samples or the limit.
+    fn integrate(&mut self, start: Event, samples: u32, limit: u32) {
+        let mut random = Random::new(34);
+        let rooms = [(101_300, 29_815, 0), (98_765, 30_123, 2_345), (60_000, 32_315, 6_000)];
+        self.feed(start);
+        for number in 1..=samples {
+            let (p, t, e) = random.pick(&rooms);
+            let raw = random.between(-900_000, 25_000_000) as i32;
+            assert_eq!(self.feed(Event::Sample { raw, p, t, e }).refusal, 0);
+            if number + 12 > samples {
+                let (area, n) = (self.feed(Event::Area), number.min(limit));
+                let exact = self.ledger.exact_area().expect("a series");
+                let allowed = 1_800 * (4 * i128::from(n) - 4);
+                assert_eq!((area.refusal, area.m), (0, n), "sample {number}");
+                assert!(exact.within(i128::from(area.x), allowed), "sample {number}");
+            }
+        }
+    }
+}
+
+/// Document 02's R-10: the ledger's series has the limit of its own start, as the engine's
+/// integration has, and areas of both kinds are within the same distance, with the n of each:
+/// 5,999 and 6,000, at which a short one closes, and more of a long one before it and after it.
+#[test]
+fn short_integrations_between_long_ones() {
+    let met = Distances::default();
+    let mut beside = Beside { state: State::fresh(), ledger: Ledger::fresh(), met };
+    beside.feed(Event::Load { index: 0 });
+    for mode in [Event::Absolute, Event::Reference { cylinder: 300_000_000, e: 1_500 }] {
+        beside.feed(mode);
+        beside.integrate(Event::Start, 6_006, 600_000);
+        beside.integrate(Event::StartShort, 6_006, 6_000);
+        beside.integrate(Event::StartShort, 5_999, 6_000);
+        assert_eq!(beside.feed(Event::Stop).refusal, 0, "5,999 leave it running");
+        beside.integrate(Event::StartShort, 6_000, 6_000);
+        assert_eq!(beside.feed(Event::Stop).refusal, 10, "6,000 have closed it");
+        beside.integrate(Event::Start, 6_006, 600_000);
+    }
+    print(&beside.met);
+}
+
+/// The ledger beside an engine whose short integrations close a reading too soon or too late, or
+/// whose long ones close as short ones do: the area is not of as many readings as the ledger has.
+#[test]
+fn a_wrong_limit_is_seen_by_the_ledger() {
+    let sheets = [bench::sheet()];
+    for (start, right, wrong) in [
+        (Event::StartShort, 6_000, 5_999),
+        (Event::StartShort, 6_000, 6_001),
+        (Event::StartShort, 6_000, 600_000),
+        (Event::Start, 600_000, 6_000),
+    ] {
+        let (mut state, mut ledger) = (State::fresh(), Ledger::fresh());
+        let mut check = |event: Event| {
+            let entry = Entry::Known(event);
+            let (answer, mut next) = step(&sheets, &state, &entry);
+            if let Integration::Running { limit, .. } = &mut next.integration {
+                assert!([right, wrong].contains(limit));
+                *limit = wrong;
+            }
+            state = next;
+            ledger.check(&sheets, &entry, &answer).map(|_| answer.m)
+        };
+        let sample = Event::Sample { raw: 1_000_000, p: 101_300, t: 29_815, e: 0 };
+        let before = [Event::Load { index: 0 }, start];
+        let readings = right.min(wrong) as usize;
+        assert!(before.into_iter().chain(vec![sample; readings]).all(|event| check(event).is_ok()));
+        assert_eq!(check(Event::Area), Ok(readings as u32));
+        assert!(check(sample).is_ok());
+        let why = check(Event::Area).expect_err("a wrong number of readings");
+        assert!(why.contains("readings, the ledger has"), "{why}");
+    }
 }
 
 /// The lowest wet value of all: the steepest line with the coldest T0, in the warmest and

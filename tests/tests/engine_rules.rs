@@ -1,10 +1,15 @@
 //! The engine's refusals in their order, what each event leaves behind, and how an
-//! integration runs and closes. The expected numbers are document 01's words.
+//! integration runs and closes. The expected numbers are document 01's words, and document 02's.
 
 use irga_tests::bench;
-use irga_tests::engine::{step, Answer, Entry, Event, Integration, Mode, SheetRecord, State};
+use irga_tests::engine::{
+    step, Answer, Entry, Event, Integration, Mode, SheetRecord, State, Tally,
+};
 
 const LOAD: Event = Event::Load { index: 0 };
+
+/// Kind 7, and kind 10.
+const STARTS: [Event; 2] = [Event::Start, Event::StartShort];
 
 fn good(raw: i32) -> Event {
     Event::Sample { raw, p: 101_300, t: 29_815, e: 0 }
@@ -55,6 +60,7 @@ fn without_a_sheet_everything_but_a_load_is_refused_with_1() {
         Event::Start,
         Event::Stop,
         Event::Area,
+        Event::StartShort,
     ];
     for event in all {
         assert_eq!(refusal(&State::fresh(), event), 1, "{event:?}");
@@ -131,7 +137,6 @@ fn settings_leave_what_they_say() {
 /// All five settings, when accepted, throw the running integration away.
 #[test]
 fn settings_make_the_integration_idle() {
-    let running = after(&[LOAD, Event::Start, good(0)]);
     let settings = [
         LOAD,
         Event::Zero { raw: 0 },
@@ -139,16 +144,17 @@ fn settings_make_the_integration_idle() {
         Event::Reference { cylinder: 5, e: 0 },
         Event::Absolute,
     ];
-    for event in settings {
+    for (start, event) in STARTS.into_iter().flat_map(|start| settings.map(|event| (start, event)))
+    {
+        let running = after(&[LOAD, start, good(0)]);
         let (answers, state) = walk(running, &[Entry::Known(event)]);
         assert_eq!(answers[0].refusal, 0);
-        assert_eq!(state.integration, Integration::Idle, "{event:?}");
+        assert_eq!(state.integration, Integration::Idle, "{start:?}, {event:?}");
     }
 }
 
 #[test]
 fn refused_events_leave_the_state() {
-    let running = after(&[LOAD, Event::Start, good(10)]);
     let others = [
         Entry::Known(Event::Load { index: 1 }),
         Entry::Known(Event::Load { index: 2 }),
@@ -158,30 +164,35 @@ fn refused_events_leave_the_state() {
         Entry::Malformed(0),
         Entry::Malformed(5),
         Entry::Malformed(7),
+        Entry::Malformed(10),
+        Entry::Malformed(11),
         Entry::Malformed(255),
     ];
-    for entry in others {
+    for (start, entry) in STARTS.into_iter().flat_map(|start| others.map(|entry| (start, entry))) {
+        let running = after(&[LOAD, start, good(10)]);
         let (answers, state) = walk(running, &[entry]);
         assert_ne!(answers[0].refusal, 0);
-        assert_eq!(state, running, "{entry:?}");
+        assert_eq!(state, running, "{start:?}, {entry:?}");
     }
 }
 
 #[test]
 fn a_refused_sample_closes_a_running_integration() {
-    let running = after(&[LOAD, Event::Start, good(10)]);
-    let Integration::Running(tally) = running.integration else { panic!("not running") };
-    let closed = State { integration: Integration::Closed(tally), ..running };
     let closing = [
         (Entry::Malformed(6), 11),
         (Entry::Known(Event::Sample { raw: 0, p: 0, t: 0, e: 0 }), 6),
         (Entry::Known(good(-2_000_001)), 7),
         (Entry::Known(good(100_000_000)), 8),
     ];
-    for (entry, number) in closing {
-        let (answers, state) = walk(running, &[entry]);
-        assert_eq!(answers[0].refusal, number);
-        assert_eq!(state, closed);
+    for start in STARTS {
+        let running = after(&[LOAD, start, good(10)]);
+        let tally = Tally { n: 1, first: 150, last: 150, sum: 150 };
+        let closed = State { integration: Integration::Closed(tally), ..running };
+        for (entry, number) in closing {
+            let (answers, state) = walk(running, &[entry]);
+            assert_eq!(answers[0].refusal, number);
+            assert_eq!(state, closed, "{start:?}");
+        }
     }
 }
 
@@ -190,24 +201,119 @@ fn stop_and_area_wait_for_their_time() {
     let loaded = after(&[LOAD]);
     assert_eq!(refusal(&loaded, Event::Stop), 10);
     assert_eq!(refusal(&loaded, Event::Area), 10);
-    let empty = after(&[LOAD, Event::Start]);
-    assert_eq!(refusal(&empty, Event::Area), 10);
-    let closed_empty = after(&[LOAD, Event::Start, Event::Stop]);
-    assert_eq!(refusal(&closed_empty, Event::Area), 10);
-    assert_eq!(refusal(&closed_empty, Event::Stop), 10);
-    // Readings of 15 and 30: twice the second, less both.
-    let running = after(&[LOAD, Event::Start, good(1), good(2)]);
-    let (answers, state) = walk(running, &[Entry::Known(Event::Area)]);
-    assert_eq!(answers[0], Answer { kind: 9, refusal: 0, m: 2, x: 15, y: 0 });
-    assert_eq!(state, running, "an area leaves the state");
-    let restarted = after(&[LOAD, Event::Start, good(1), Event::Stop, Event::Start]);
-    assert_eq!(restarted, empty, "a start takes whatever stood before");
+    for start in STARTS {
+        let empty = after(&[LOAD, start]);
+        assert_eq!(refusal(&empty, Event::Area), 10);
+        let closed_empty = after(&[LOAD, start, Event::Stop]);
+        assert_eq!(refusal(&closed_empty, Event::Area), 10);
+        assert_eq!(refusal(&closed_empty, Event::Stop), 10);
+        // Readings of 15 and 30: twice the second, less both.
+        let running = after(&[LOAD, start, good(1), good(2)]);
+        let (answers, state) = walk(running, &[Entry::Known(Event::Area)]);
+        assert_eq!(answers[0], Answer { kind: 9, refusal: 0, m: 2, x: 15, y: 0 });
+        assert_eq!(state, running, "an area leaves the state");
+        let restarted = after(&[LOAD, Event::Start, good(1), Event::Stop, start]);
+        assert_eq!(restarted, empty, "a start takes whatever stood before");
+    }
 }
 
 #[test]
 fn a_closed_integration_counts_no_more() {
-    let closed = after(&[LOAD, Event::Start, good(1), Event::Stop]);
-    let (answers, state) = walk(closed, &[Entry::Known(good(2)), Entry::Known(Event::Area)]);
-    assert_eq!(answers[1].m, 1);
-    assert_eq!(state, closed);
+    for start in STARTS {
+        let closed = after(&[LOAD, start, good(1), Event::Stop]);
+        let (answers, state) = walk(closed, &[Entry::Known(good(2)), Entry::Known(Event::Area)]);
+        assert_eq!(answers[1].m, 1);
+        assert_eq!(state, closed);
+    }
+}
+
+/// So many samples that are accepted, from a state on.
+fn read(state: State, samples: u32) -> State {
+    let entry = Entry::Known(good(1));
+    (0..samples).fold(state, |state, _| {
+        let (answer, next) = step(&[bench::sheet()], &state, &entry);
+        assert_eq!(answer.refusal, 0);
+        next
+    })
+}
+
+/// Whether an integration runs, and how many readings it has.
+fn standing(state: &State) -> (bool, u64) {
+    match state.integration {
+        Integration::Idle => panic!("no integration"),
+        Integration::Running { tally, .. } => (true, tally.n),
+        Integration::Closed(tally) => (false, tally.n),
+    }
+}
+
+/// Whatever a start can meet: no sheet, no integration in either mode, one that runs with readings
+/// and without, and one that was closed by a stop, by a refused sample, or at its limit.
+fn met_by_a_start() -> Vec<State> {
+    let against = Event::Reference { cylinder: 5, e: 6 };
+    let mut states = vec![State::fresh(), after(&[LOAD]), after(&[LOAD, against])];
+    for start in STARTS {
+        let empty = after(&[LOAD, Event::Zero { raw: -7 }, start]);
+        let running = read(empty, 2);
+        let stopped = walk(running, &[Entry::Known(Event::Stop)]).1;
+        let refused = walk(running, &[Entry::Malformed(6)]).1;
+        states.extend([empty, running, stopped, refused, after(&[LOAD, against, start, good(1)])]);
+    }
+    states.push(read(after(&[LOAD, Event::StartShort]), 6_000));
+    states
+}
+
+/// Document 02's R-10: kind 10 is accepted and refused as kind 7 is, and begins anew whatever stood
+/// before. Nothing else of the state moves.
+#[test]
+fn a_short_start_is_accepted_and_refused_as_a_start_is() {
+    for state in met_by_a_start() {
+        for (start, kind, limit) in [(Event::Start, 7, 600_000), (Event::StartShort, 10, 6_000)] {
+            let (answers, next) = walk(state, &[Entry::Known(start)]);
+            let refusal = if state.sheet.is_none() { 1 } else { 0 };
+            assert_eq!(answers, [Answer { kind, refusal, m: 0, x: 0, y: 0 }]);
+            let begun = Integration::Running { tally: Tally::default(), limit };
+            let integration = if refusal == 0 { begun } else { state.integration };
+            assert_eq!(next, State { integration, ..state });
+        }
+    }
+}
+
+/// The 6,000th reading is counted and closes it; the next one is answered and not counted. Kind 7
+/// counts its 6,000th and its 6,001st and runs on.
+#[test]
+fn a_short_integration_closes_at_its_6000th() {
+    let short = read(after(&[LOAD, Event::StartShort]), 5_999);
+    assert_eq!(standing(&short), (true, 5_999));
+    let closed = read(short, 1);
+    assert_eq!(standing(&closed), (false, 6_000));
+    assert_eq!(read(closed, 1), closed);
+    assert_eq!(refusal(&closed, Event::Stop), 10);
+    let (answers, state) = walk(closed, &[Entry::Known(Event::Area)]);
+    assert_eq!((answers[0], state), (Answer { kind: 9, refusal: 0, m: 6_000, x: 0, y: 0 }, closed));
+    let long = read(after(&[LOAD, Event::Start]), 6_000);
+    assert_eq!(standing(&long), (true, 6_000));
+    assert_eq!(standing(&read(long, 1)), (true, 6_001));
+}
+
+/// Each start has its own limit, whichever start, and whichever integration, stood before.
+#[test]
+fn no_limit_passes_from_one_start_to_the_next() {
+    for state in met_by_a_start().into_iter().filter(|state| state.sheet.is_some()) {
+        let [long, short] = STARTS.map(|start| walk(state, &[Entry::Known(start)]).1);
+        assert_eq!(standing(&read(long, 6_001)), (true, 6_001));
+        assert_eq!(standing(&read(short, 6_001)), (false, 6_000));
+    }
+    // A short one after a long one that has counted more than it may, and the other way round.
+    let long = read(after(&[LOAD, Event::Start]), 6_001);
+    let short = walk(long, &[Entry::Known(Event::StartShort)]).1;
+    assert_eq!(standing(&read(short, 5_999)), (true, 5_999));
+    let closed = read(short, 6_001);
+    assert_eq!(standing(&closed), (false, 6_000));
+    for before in [short, read(short, 5_999), closed] {
+        let long = walk(before, &[Entry::Known(Event::Start)]).1;
+        let nearly = read(long, 599_999);
+        assert_eq!(standing(&nearly), (true, 599_999));
+        assert_eq!(standing(&read(nearly, 1)), (false, 600_000));
+        assert_eq!(standing(&read(nearly, 2)), (false, 600_000));
+    }
 }

@@ -163,6 +163,62 @@ fn a_malformed_event_keeps_its_kind_in_the_line() {
     assert_eq!(file::program(&session.to_bytes()), "1 200 11 0 0 0\n");
 }
 
+/// One bench sheet; a load, a short start, a sample of raw −2, and an area.
+fn short_by_hand() -> Vec<u8> {
+    let mut bytes = Vec::new();
+    for number in [1, 16, 4, 40] {
+        word(&mut bytes, number);
+    }
+    bytes.extend(&by_hand()[16..64]);
+    bytes.extend([10, 0, 0, 0, 0, 0, 0, 0, 0, 0, 0, 0, 0, 0, 0, 0, 0, 0, 0, 0, 0, 0, 0, 0]);
+    bytes.extend(&by_hand()[64..]);
+    for number in [9, 0, 0, 0, 0, 0] {
+        word(&mut bytes, number);
+    }
+    bytes
+}
+
+/// Kind 10 as bytes, as an event and as answers; kind 11 is still none.
+#[test]
+fn a_short_start_by_bytes() {
+    let file = short_by_hand();
+    let session = Session::open(&file).expect("a sound file");
+    assert_eq!(session.events[1].entry(), Entry::Known(Event::StartShort));
+    assert_eq!(session.to_bytes(), file);
+    let lines = "1 1 0 0 0 0\n2 10 0 0 0 0\n3 6 0 0 -30 -30\n4 9 0 1 0 0\n";
+    assert_eq!(file::program(&file), lines);
+    let mut output = [0xAA; 96];
+    assert_eq!(file::run(&file, &mut output), Outcome { status: 0, written: 96 });
+    let mut answer = [0; 24];
+    answer[0] = 10;
+    assert_eq!(output[24..48], answer);
+    let plan = Plan::of(&session).expect("a plan");
+    assert_eq!(plan.events[1], Event::StartShort);
+    assert_eq!(written(&plan, file.len()), (Outcome { status: 0, written: file.len() }, file));
+    let mut unknown = short_by_hand();
+    unknown[64] = 11;
+    let lines = "1 1 0 0 0 0\n2 11 11 0 0 0\n3 6 0 0 -30 -30\n4 9 10 0 0 0\n";
+    assert_eq!(file::program(&unknown), lines);
+}
+
+/// Kind 10 has no field: with any other byte that is not zero it is refused with 11, begins nothing
+/// and closes nothing, and no plan makes it.
+#[test]
+fn a_short_start_with_another_byte() {
+    for at in 1..24 {
+        let mut file = short_by_hand();
+        file[64 + at] = 1;
+        let lines = "1 1 0 0 0 0\n2 10 11 0 0 0\n3 6 0 0 -30 -30\n4 9 10 0 0 0\n";
+        assert_eq!(file::program(&file), lines, "byte {at}");
+        let session = Session::open(&file).expect("a sound header");
+        assert_eq!(session.events[1].entry(), Entry::Malformed(10));
+        assert_eq!(Plan::of(&session), None);
+        let records = Records::of_file(&file).expect("a sound header");
+        let outcome = plan::write_records(&records, &mut [0; 200]);
+        assert_eq!(outcome, Outcome { status: 11, written: 0 }, "byte {at}");
+    }
+}
+
 /// The plan that `by_hand` is the file of.
 fn planned_by_hand() -> Plan {
     let sample = Event::Sample { raw: -2, p: 101_300, t: 29_815, e: 7 };

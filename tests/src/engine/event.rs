@@ -1,4 +1,4 @@
-//! What goes into the engine and what comes out of it: the sheets, the nine kinds of
+//! What goes into the engine and what comes out of it: the sheets, the ten kinds of
 //! event, and the answer.
 
 use crate::rules::Sheet;
@@ -12,8 +12,10 @@ pub const SAMPLE: u8 = 6;
 const START: u8 = 7;
 const STOP: u8 = 8;
 const AREA: u8 = 9;
+const START_SHORT: u8 = 10;
 
-/// One of nine kinds, each with its own fields, as wide as the file has them.
+/// One of ten kinds, each with its own fields, as wide as the file has them. A short start
+/// begins an integration that closes sooner.
 #[derive(Clone, Copy, Debug, PartialEq, Eq)]
 pub enum Event {
     Load { index: u32 },
@@ -25,6 +27,7 @@ pub enum Event {
     Start,
     Stop,
     Area,
+    StartShort,
 }
 
 impl Event {
@@ -39,6 +42,7 @@ impl Event {
             Event::Start => START,
             Event::Stop => STOP,
             Event::Area => AREA,
+            Event::StartShort => START_SHORT,
         }
     }
 }

@@ -30,12 +30,12 @@ use crate::random::Random;
 use crate::sessions;
 
 /// Every accepted area among a session's answers: its place, and the wet values that it counts,
-/// told from the answers alone. No session file is long enough for the 600,000th.
+/// told from the answers alone. No session file is long enough for the 6,000th.
 pub fn areas(answers: &[Answer]) -> Vec<(usize, Vec<i64>)> {
     let (mut runs, mut counted, mut found) = (false, Vec::new(), Vec::new());
     for (place, Answer { kind, refusal, x, .. }) in answers.iter().enumerate() {
         match (kind, refusal) {
-            (7, 0) => (runs, counted) = (true, Vec::new()),
+            (7 | 10, 0) => (runs, counted) = (true, Vec::new()),
             (6, 0) if runs => counted.push(*x),
             (1..=5 | 8, 0) | (6, _) => runs = false,
             (9, 0) => found.push((place, counted.clone())),

@@ -197,7 +197,7 @@ fn owed_names() -> Vec<String> {
     for (record, at) in sheet.chain(events) {
         names.extend(["lowest", "highest"].map(|end| end_name(&record, at, end)));
     }
-    names.extend((1..=9).map(accepted_name));
+    names.extend(hostile::KINDS.map(|(event, _)| accepted_name(event.kind())));
     names.extend([0, 11, 14, 15].map(|status| format!("records, status {status}")));
     for numbers in [&[11, 14][..], &[11, 15], &[14, 15], &[11, 14, 15]] {
         names.push(at_once_name(&numbers.iter().copied().collect()));

@@ -240,7 +240,7 @@ pub fn empty() -> [OwedPage; 4] {
     let nothing = |name, session| OwedPage { name, session, every: 40, lines: "" };
     let events = [sample(0), sample(1)].iter().map(EventRecord::of).collect();
     let refused = [-2_000_001, 70_000_000, 150_000_001].map(sample);
-    let others = [Event::Start, against(0), Event::Area, Event::Stop];
+    let others = [Event::Start, against(0), Event::Area, Event::Stop, Event::StartShort];
     [
         nothing("no event", Session::default()),
         nothing("no sheet", Session { sheets: Vec::new(), events }),

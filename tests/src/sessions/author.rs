@@ -4,6 +4,7 @@
 
 use crate::engine::{self, Event, Integration, Mode, State, SAMPLE};
 use crate::file::{EventRecord, Session, SHEETS_LIMIT};
+use crate::hostile;
 use crate::random::Random;
 use crate::rules::{self, Air, Sheet};
 
@@ -39,7 +40,7 @@ impl<'a> Author<'a> {
         self.write_sheets();
         while self.session.events.len() < length {
             let kind = if self.random.percent(self.profile.stray) {
-                self.random.between(1, 9) as u8
+                self.random.between(1, hostile::KINDS.len() as i64) as u8
             } else {
                 self.next_of_a_lesson()
             };
@@ -101,12 +102,12 @@ impl<'a> Author<'a> {
         }
         match self.state.integration {
             Integration::Idle if dice < 45 => setting,
-            Integration::Idle => self.random.pick(&[6, 7, 7]),
-            Integration::Running(_) if self.profile.shortest > 100 => long_running(dice),
-            Integration::Running(_) => running(dice, setting),
+            Integration::Idle => self.random.pick(&[6, 7, 10]),
+            Integration::Running { .. } if self.profile.shortest > 100 => long_running(dice),
+            Integration::Running { .. } => running(dice, setting),
             Integration::Closed(_) if dice < 40 => 9,
             Integration::Closed(_) if dice < 70 => setting,
-            Integration::Closed(_) => self.random.pick(&[6, 7, 7, 8]),
+            Integration::Closed(_) => self.random.pick(&[6, 7, 10, 8]),
         }
     }
 
@@ -150,7 +151,8 @@ impl<'a> Author<'a> {
             6 => self.sample(),
             7 => Event::Start,
             8 => Event::Stop,
-            _ => Event::Area,
+            9 => Event::Area,
+            _ => Event::StartShort,
         }
     }
 
@@ -371,7 +373,8 @@ fn running(dice: u64, setting: u8) -> u8 {
     match dice {
         0..=79 => 6,
         80..=89 => 9,
-        90..=95 => 8,
+        90..=94 => 8,
+        95 => 10,
         96 => 7,
         _ => setting,
     }

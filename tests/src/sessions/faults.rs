@@ -49,7 +49,8 @@ impl Fault {
         let mut all = vec![Kind, ManySheets, ManyEvents, SheetsCut, EventsCut, NoRoom];
         all.extend((1..4).map(Padding));
         all.extend((20..RECORD_BYTES).map(Rest));
-        let pairs = (1..=9).flat_map(|kind| fields().map(move |at| (kind, at)));
+        let kinds = hostile::KINDS.iter().map(|(event, _)| event.kind());
+        let pairs = kinds.flat_map(|kind| fields().map(move |at| (kind, at)));
         let lacked = pairs.filter(|(kind, at)| !has_field(*kind, *at));
         all.extend(lacked.map(|(kind, at)| Lacked(kind, at)));
         all
@@ -92,8 +93,9 @@ fn any_record<'a>(random: &mut Random, records: &'a mut [u8]) -> &'a mut [u8] {
 }
 
 fn unknown_kind(random: &mut Random) -> u8 {
-    let any = random.between(10, 255) as u8;
-    random.pick(&[0, 10, 11, any, any])
+    let first = hostile::KINDS.len() as u8 + 1;
+    let any = random.between(first.into(), 255) as u8;
+    random.pick(&[0, first, first + 1, any, any])
 }
 
 /// Goes on with the same records until the list has so many bytes.
@@ -165,7 +167,7 @@ pub fn faults(records: &Records, room: usize) -> BTreeSet<Fault> {
 fn event_faults(event: &[u8]) -> Vec<Fault> {
     let kind = event[0];
     let mut faults: Vec<Fault> = (1..4).filter(|at| event[*at] != 0).map(Fault::Padding).collect();
-    if !(1..=9).contains(&kind) {
+    if !hostile::is_known(kind) {
         faults.push(Fault::Kind);
         return faults;
     }

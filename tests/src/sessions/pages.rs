@@ -16,8 +16,9 @@ use super::author::{fields, raw_of};
 const AIRS: [Air; 2] = [bench::AIR, Air { e: 10_130, ..bench::AIR }];
 
 /// Events that have no line on a page, one of them a sample outside its limits.
-const OTHERS: [Event; 5] = [
+const OTHERS: [Event; 6] = [
     Event::Start,
+    Event::StartShort,
     Event::Stop,
     Event::Area,
     Event::Zero { raw: 1_000 },

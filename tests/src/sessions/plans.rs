@@ -3,6 +3,7 @@
 
 use crate::engine::{Event, SheetRecord};
 use crate::file::{EventRecord, EVENTS_LIMIT, SHEETS_LIMIT};
+use crate::hostile;
 use crate::plan::{Plan, PlannedSheet};
 use crate::random::Random;
 use crate::rules;
@@ -62,7 +63,7 @@ fn wild_sheet(random: &mut Random) -> PlannedSheet {
 
 /// Loads more often than other kinds, since nothing is read without a sheet.
 fn any_event(random: &mut Random, sheets: usize) -> Event {
-    let kind = random.between(0, 9).max(1) as u8;
+    let kind = random.between(0, hostile::KINDS.len() as i64).max(1) as u8;
     event(random, kind, sheets)
 }
 

@@ -4,6 +4,7 @@
 use std::fs;
 use std::path::{Path, PathBuf};
 
+use irga_tests::engine::{self, Answer, Entry, Event, Integration, SheetRecord, State, Tally};
 use irga_tests::file::{self, Outcome, Session};
 use irga_tests::harness::{areas, Campaign, Executable, Program};
 use irga_tests::random::Random;
@@ -132,7 +133,7 @@ fn a_malformed_sample_that_does_not_close_is_caught() {
             return;
         };
         for record in &mut session.events {
-            if record.kind == 6 && record.entry() == irga_tests::engine::Entry::Malformed(6) {
+            if record.kind == 6 && record.entry() == Entry::Malformed(6) {
                 record.kind = 60;
             }
         }
@@ -255,6 +256,149 @@ fn wrong_stores_are_caught() {
     few(62).against_engine(&mut right).unwrap_or_else(|why| panic!("{why}"));
     for fault in FAULTS {
         caught(62, "answer", |file, output, outcome| stored_by(Some(fault), file, output, outcome));
+    }
+}
+
+/// An engine that goes by another step: the event's answer and the state after it.
+fn stepped_by(
+    step: impl Fn(&[SheetRecord], &State, &Entry) -> (Answer, State),
+    file: &[u8],
+    output: &mut [u8],
+    outcome: &Outcome,
+) {
+    let Some(session) = Session::open(file).filter(|_| outcome.status == 0) else {
+        return;
+    };
+    let mut state = State::fresh();
+    for (record, bytes) in session.events.iter().zip(output.chunks_exact_mut(24)) {
+        let (answer, next) = step(&session.sheets, &state, &record.entry());
+        bytes.copy_from_slice(&file::answer_to_bytes(&answer));
+        state = next;
+    }
+}
+
+const SHORT: Entry = Entry::Known(Event::StartShort);
+
+/// Engines that take some entries for others, and answer under the kind as given.
+const OTHER_ENTRIES: [(&str, fn(&Entry) -> Entry); 5] = [
+    ("kind 10 is unknown", |entry| if *entry == SHORT { Entry::Malformed(10) } else { *entry }),
+    (
+        "kind 10 with a field is a short start",
+        |entry| {
+            if entry.kind() == 10 {
+                SHORT
+            } else {
+                *entry
+            }
+        },
+    ),
+    ("kind 11 is a short start", |entry| if entry.kind() == 11 { SHORT } else { *entry }),
+    ("kind 10 is a stop", |entry| match *entry {
+        SHORT => Entry::Known(Event::Stop),
+        other => other,
+    }),
+    ("kind 10 is an absolute", |entry| match *entry {
+        SHORT => Entry::Known(Event::Absolute),
+        other => other,
+    }),
+];
+
+/// What becomes of a right answer and the right state after an event, told from the state before
+/// it and the event.
+type Spoil = fn(&State, &Entry, Answer, State) -> (Answer, State);
+
+fn runs(state: &State) -> bool {
+    matches!(state.integration, Integration::Running { .. })
+}
+
+fn short_runs(state: &State) -> bool {
+    matches!(state.integration, Integration::Running { limit: 6_000, .. })
+}
+
+/// The same state with the integration that stood before.
+fn keeping(before: &State, next: State) -> State {
+    State { integration: before.integration, ..next }
+}
+
+/// Engines that spoil the answer to a short start, or what it leaves.
+const WRONG_STARTS: [(&str, Spoil); 6] = [
+    ("a short start leaves a running integration", |before, entry, answer, next| {
+        (answer, if *entry == SHORT && runs(before) { keeping(before, next) } else { next })
+    }),
+    ("a short start leaves a closed integration", |before, entry, answer, next| {
+        let closed = matches!(before.integration, Integration::Closed(_));
+        (answer, if *entry == SHORT && closed { keeping(before, next) } else { next })
+    }),
+    ("a short start begins nothing", |before, entry, answer, next| {
+        (answer, if *entry == SHORT { keeping(before, next) } else { next })
+    }),
+    ("a short start is accepted without a sheet", |_, entry, answer, next| {
+        (Answer { refusal: if *entry == SHORT { 0 } else { answer.refusal }, ..answer }, next)
+    }),
+    ("a short start is refused while one runs", |before, entry, answer, next| {
+        if *entry == SHORT && runs(before) {
+            return (Answer { refusal: 10, ..answer }, *before);
+        }
+        (answer, next)
+    }),
+    ("a short start answers its limit", |_, entry, answer, next| {
+        let limit = *entry == SHORT && answer.refusal == 0;
+        (Answer { m: if limit { 6_000 } else { answer.m }, ..answer }, next)
+    }),
+];
+
+/// Engines that are wrong about a malformed short start, or about a short integration that runs.
+const WRONG_INTEGRATIONS: [(&str, Spoil); 5] = [
+    ("a malformed short start closes", |_, entry, answer, next| match next.integration {
+        Integration::Running { tally, .. } if *entry == Entry::Malformed(10) => {
+            (answer, State { integration: Integration::Closed(tally), ..next })
+        }
+        _ => (answer, next),
+    }),
+    ("a malformed short start begins anew", |before, entry, answer, next| {
+        let begun = Integration::Running { tally: Tally::default(), limit: 6_000 };
+        let begins = *entry == Entry::Malformed(10) && before.sheet.is_some();
+        (answer, if begins { State { integration: begun, ..next } } else { next })
+    }),
+    ("a short integration counts nothing", |before, _, answer, next| {
+        let counts = short_runs(before) && (answer.kind, answer.refusal) == (6, 0);
+        (answer, if counts { keeping(before, next) } else { next })
+    }),
+    ("a refused sample does not close a short integration", |before, _, answer, next| {
+        let closes = short_runs(before) && answer.kind == 6 && answer.refusal != 0;
+        (answer, if closes { keeping(before, next) } else { next })
+    }),
+    ("a setting leaves a short integration", |before, _, answer, next| {
+        let leaves = short_runs(before) && matches!((answer.kind, answer.refusal), (2..=5, 0));
+        (answer, if leaves { keeping(before, next) } else { next })
+    }),
+];
+
+/// Document 02's R-10: what can show in a session of at most 2,700 events. What cannot, another limit,
+/// the program `charts` shows.
+#[test]
+fn wrong_short_starts_are_caught() {
+    let mut right = |file: &[u8], output: &mut [u8]| {
+        let outcome = file::run(file, output);
+        stepped_by(engine::step, file, output, &outcome);
+        outcome
+    };
+    few(63).against_engine(&mut right).unwrap_or_else(|why| panic!("{why}"));
+    for (what, other) in OTHER_ENTRIES {
+        println!("{what}");
+        let step = |sheets: &[SheetRecord], state: &State, entry: &Entry| {
+            let (answer, next) = engine::step(sheets, state, &other(entry));
+            (Answer { kind: entry.kind(), ..answer }, next)
+        };
+        caught(63, "answer", |file, output, outcome| stepped_by(step, file, output, outcome));
+    }
+    for (what, spoil) in WRONG_STARTS.into_iter().chain(WRONG_INTEGRATIONS) {
+        println!("{what}");
+        let step = |sheets: &[SheetRecord], state: &State, entry: &Entry| {
+            let (answer, next) = engine::step(sheets, state, entry);
+            spoil(state, entry, answer, next)
+        };
+        caught(63, "answer", |file, output, outcome| stepped_by(step, file, output, outcome));
     }
 }
 

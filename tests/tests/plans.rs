@@ -84,6 +84,12 @@ fn blank_fields(records: &mut Records) {
     }
 }
 
+/// The same for the fields of kind 10 alone.
+fn blank_short_starts(records: &mut Records) {
+    let short = records.events.chunks_exact_mut(RECORD_BYTES).filter(|event| event[0] == 10);
+    short.for_each(|event| event[4..].fill(0));
+}
+
 /// Cuts off what is behind the last whole record.
 fn whole(records: &Records) -> Records {
     let whole = |list: &[u8]| list[..list.len() - list.len() % RECORD_BYTES].to_vec();
@@ -98,7 +104,7 @@ const OWED_14: &str = "expected Outcome { status: 14";
 const TOUCHED: &str = "after the file was touched";
 
 /// Writers that put other bytes.
-const WRONG_BYTES: [Wrong; 5] = [
+const WRONG_BYTES: [Wrong; 6] = [
     ("the events begin where the sheets do", "byte 12 of the file", |records, out| {
         afterwards(records, out, |_, out| out[12..16].copy_from_slice(&[16, 0, 0, 0]))
     }),
@@ -115,6 +121,13 @@ const WRONG_BYTES: [Wrong; 5] = [
             sheets[..4].swap_with_slice(&mut events[..4]);
         })
     }),
+    ("a short start is written as a start", "expected 10, was given 7", |records, out| {
+        afterwards(records, out, |records, out| {
+            let events = &mut out[16 + records.sheets.len()..records.file_bytes()];
+            let short = events.chunks_exact_mut(RECORD_BYTES).filter(|event| event[0] == 10);
+            short.for_each(|event| event[0] = 7);
+        })
+    }),
     ("the rest of the buffer is cleared", TOUCHED, |records, out| {
         afterwards(records, out, |records, out| out[records.file_bytes()..].fill(0))
     }),
@@ -128,9 +141,19 @@ const WRONG_BYTES: [Wrong; 5] = [
 ];
 
 /// Writers that give another status, or another length.
-const WRONG_OUTCOMES: [Wrong; 8] = [
+const WRONG_OUTCOMES: [Wrong; 10] = [
     ("a field that the kind lacks is written", OWED_11, |records, out| {
         written_blindly(records, out, blank_fields)
+    }),
+    ("a field is written that a short start lacks", OWED_11, |records, out| {
+        written_blindly(records, out, blank_short_starts)
+    }),
+    ("kind 10 is unknown", "was given Outcome { status: 11", |records, out| {
+        let short = records.events.chunks(RECORD_BYTES).any(|event| event[0] == 10);
+        if short && !too_many(records) {
+            return Outcome { status: 11, written: 0 };
+        }
+        write_records(records, out)
     }),
     ("a sheet's last bytes are not looked at", OWED_11, |records, out| {
         written_blindly(records, out, |records| blank(&mut records.sheets, 20..24))

@@ -23,19 +23,28 @@ fn assert_planned_again(file: &[u8]) -> bool {
     plan.is_some()
 }
 
-/// Sessions that may be damaged, and plans with numbers inside and far outside their limits.
+/// Whether a file has a short start or bytes that stand for one.
+fn has_a_short_start(file: &[u8]) -> bool {
+    Session::open(file).is_some_and(|session| session.events.iter().any(|event| event.kind == 10))
+}
+
+/// Sessions that may be damaged, and plans with numbers inside and far outside their limits; many of
+/// them with a short start.
 #[test]
 fn invented_files() {
-    let (mut plain, mut other) = (0, 0);
+    let (mut plain, mut other, mut short) = (0, 0, [0; 2]);
     for number in 0..1_000 {
         let (plan, _) = plans::planned(0x6274, number);
         for file in [sessions::make(0x6274, number).file, plan.session().to_bytes()] {
-            let count = if assert_planned_again(&file) { &mut plain } else { &mut other };
-            *count += 1;
+            let again = assert_planned_again(&file);
+            *if again { &mut plain } else { &mut other } += 1;
+            short[usize::from(again)] += u32::from(has_a_short_start(&file));
         }
     }
-    println!("{plain} planned again, {other} left");
+    let [short_left, short] = short;
+    println!("{plain} planned again, {other} left; with kind 10 {short} and {short_left}");
     assert!(plain > 1_000 && other > 200, "{plain} planned again, {other} left");
+    assert!(short > 500 && short_left > 50, "{short} planned again, {short_left} left");
 }
 
 /// The example of document 01, which the program `irga` reads too.

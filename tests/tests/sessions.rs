@@ -4,7 +4,7 @@
 use std::collections::BTreeMap;
 use std::sync::OnceLock;
 
-use irga_tests::engine::{step, Answer, Entry, Event, Mode, State};
+use irga_tests::engine::{step, Answer, Entry, Event, Integration, Mode, State};
 use irga_tests::exact::{self, Fraction};
 use irga_tests::file::{self, EventRecord, Session};
 use irga_tests::grounds;
@@ -39,7 +39,7 @@ fn fields(record: &EventRecord) -> [(&'static str, &'static [u8], u32); 5] {
 /// Each kind meets each field that it lacks, not zero and with its highest bit set.
 #[test]
 fn every_field_that_a_kind_lacks_is_spoilt() {
-    let mut spoilt = [[(0, 0); 5]; 10];
+    let mut spoilt = [[(0, 0); 5]; 11];
     for record in sound().flat_map(|session| session.events) {
         let Some(of_kind) = spoilt.get_mut(usize::from(record.kind)) else {
             continue;
@@ -49,7 +49,7 @@ fn every_field_that_a_kind_lacks_is_spoilt() {
             *highest += value >> 31;
         }
     }
-    for kind in 1..=9 {
+    for kind in 1..=10 {
         let counted = spoilt[usize::from(kind)].iter().zip(fields(&EventRecord::default()));
         for ((any, highest), (name, kinds, _)) in counted {
             if !kinds.contains(&kind) {
@@ -341,6 +341,111 @@ fn findings_stored_taken_and_emptied() {
     {
         assert!(counts.iter().all(|count| *count >= 40), "{met:?}");
     }
+}
+
+/// What the sessions meet of R-10's short start.
+#[derive(Debug, Default)]
+struct ShortMet {
+    /// Refused for want of a sheet, and accepted: with no integration, while one runs and after a
+    /// closed one, which a long start began or a short one.
+    no_sheet: u32,
+    idle: u32,
+    running: [u32; 2],
+    closed: [u32; 2],
+    /// Malformed by one field alone, by the bytes behind the kind alone, and in any way while an
+    /// integration runs.
+    fields: [u32; 5],
+    padding: u32,
+    malformed_running: [u32; 2],
+    /// A long start while a short integration runs, and after a closed one.
+    long_after: [u32; 2],
+    /// A short integration that a stop closes, and a refused sample.
+    stopped: u32,
+    gap: u32,
+    /// Areas of short integrations, of one reading and of more, and of the short ones that began
+    /// anew: while one ran, or after a closed one.
+    areas: [u32; 2],
+    areas_anew: u32,
+}
+
+/// Which start began the integration that stands, and whether it took the place of another.
+#[derive(Clone, Copy, Default)]
+struct Begun {
+    short: bool,
+    anew: bool,
+}
+
+impl ShortMet {
+    /// A well-formed short start that was accepted.
+    fn start(&mut self, state: &State, begun: Begun) {
+        match state.integration {
+            Integration::Idle => self.idle += 1,
+            Integration::Running { .. } => self.running[usize::from(begun.short)] += 1,
+            Integration::Closed(_) => self.closed[usize::from(begun.short)] += 1,
+        }
+    }
+
+    fn malformed(&mut self, record: &EventRecord, state: &State, begun: Begun) {
+        let spoilt = fields(record).map(|(_, _, value)| value != 0);
+        let (padding, count) =
+            (record.padding != [0; 3], spoilt.iter().filter(|spoilt| **spoilt).count());
+        for (met, _) in self.fields.iter_mut().zip(spoilt).filter(|(_, spoilt)| *spoilt) {
+            *met += u32::from(count == 1 && !padding);
+        }
+        self.padding += u32::from(count == 0 && padding);
+        let runs = matches!(state.integration, Integration::Running { .. });
+        self.malformed_running[usize::from(begun.short)] += u32::from(runs);
+    }
+
+    /// What another event does to a short integration or gets of it.
+    fn other(&mut self, answer: &Answer, state: &State, begun: Begun) {
+        let runs = matches!(state.integration, Integration::Running { .. });
+        match (answer.kind, answer.refusal, runs) {
+            (6, 1.., true) => self.gap += 1,
+            (7, 0, true) => self.long_after[0] += 1,
+            (7, 0, false) if state.integration != Integration::Idle => self.long_after[1] += 1,
+            (8, 0, _) => self.stopped += 1,
+            (9, 0, _) => {
+                self.areas[usize::from(answer.m > 1)] += 1;
+                self.areas_anew += u32::from(begun.anew);
+            }
+            _ => {}
+        }
+    }
+
+    fn count(&mut self, session: &Session) {
+        let mut begun = Begun::default();
+        for ((state, answer), record) in session.walk().zip(&session.events) {
+            match (answer.kind, answer.refusal) {
+                (10, 0) => self.start(&state, begun),
+                (10, 1) => self.no_sheet += 1,
+                (10, _) => self.malformed(record, &state, begun),
+                _ if begun.short => self.other(&answer, &state, begun),
+                _ => {}
+            }
+            if let (7 | 10, 0) = (answer.kind, answer.refusal) {
+                let anew = state.integration != Integration::Idle;
+                begun = Begun { short: answer.kind == 10, anew };
+            }
+        }
+    }
+}
+
+/// Document 02's R-10: a short start with and without a sheet, malformed in each way, and wherever an
+/// integration can stand before it.
+#[test]
+fn short_starts() {
+    let mut met = ShortMet::default();
+    sound().for_each(|session| met.count(&session));
+    println!("{met:#?}");
+    let begun = [met.idle, met.running[0], met.running[1], met.closed[0], met.closed[1]];
+    let closed = [met.long_after[0], met.long_after[1], met.stopped, met.gap, met.areas_anew];
+    for counts in [&begun, &closed, &met.fields] {
+        assert!(counts.iter().all(|count| *count >= 40), "{met:?}");
+    }
+    let others = [met.no_sheet, met.padding, met.malformed_running[0], met.malformed_running[1]];
+    assert!(others.iter().all(|count| *count >= 40), "{met:?}");
+    assert!(met.areas.iter().all(|count| *count >= 500), "{met:?}");
 }
 
 /// Areas of readings on both sides of zero, whose sum can cancel.

@@ -148,9 +148,19 @@ fn constants() -> Vec<(&'static str, usize)> {
     constants
 }
 
-/// Names of the kinds in document 01's order.
-const KINDS: [&str; 9] =
-    ["LOAD", "ZERO", "SPAN", "REFERENCE", "ABSOLUTE", "SAMPLE", "START", "STOP", "AREA"];
+/// Names of the kinds in document 01's order, and R-10's.
+const KINDS: [&str; 10] = [
+    "LOAD",
+    "ZERO",
+    "SPAN",
+    "REFERENCE",
+    "ABSOLUTE",
+    "SAMPLE",
+    "START",
+    "STOP",
+    "AREA",
+    "START_SHORT",
+];
 
 /// An array of −1 elements does not compile: one for each constant that is another.
 #[test]

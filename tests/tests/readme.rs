@@ -2,7 +2,8 @@
 //! the drift are in `drift`. Only how long the proofs and the gate take is held by no test.
 
 use irga_tests::bench;
-use irga_tests::engine::{step, Answer, Entry, Event, SheetRecord, State, READINGS_LIMIT};
+use irga_tests::engine::{step, Answer, Entry, Event, SheetRecord, State};
+use irga_tests::engine::{READINGS_LIMIT, SHORT_LIMIT};
 use irga_tests::figures::{grouped, in_one_line};
 use irga_tests::file::{self, EventRecord, Session};
 use irga_tests::grounds::by_hand::ADVICE;
@@ -27,8 +28,18 @@ fn number(number: impl ToString) -> String {
 }
 
 /// Kinds of event as the sentence on the lesson calls them.
-const KINDS: [&str; 9] =
-    ["load", "zero", "span", "reference", "absolute", "sample", "start", "stop", "area"];
+const KINDS: [&str; 10] = [
+    "load",
+    "zero",
+    "span",
+    "reference",
+    "absolute",
+    "sample",
+    "start",
+    "stop",
+    "area",
+    "short start",
+];
 
 #[test]
 fn the_lesson_s_events() {
@@ -500,14 +511,17 @@ fn limits_of_a_cylinder() {
 fn numbers_of_the_rules() {
     let (signal, wet) = (number(rules::SIGNAL_LIMIT), number(rules::WET_LIMIT));
     let (lowest, highest) = (number(rules::SPAN_LOWEST), number(rules::SPAN_HIGHEST));
-    let [zero, unit, readings] =
-        [number(rules::ZERO_LIMIT), number(rules::SPAN_UNIT), number(READINGS_LIMIT)];
+    let (zero, unit) = (number(rules::ZERO_LIMIT), number(rules::SPAN_UNIT));
+    let [readings, short] = [READINGS_LIMIT, SHORT_LIMIT].map(number);
     assert_eq!(rules::Z_LIMIT, 10i64.pow(8));
     let pressure = Air { p: 1, t: 0, e: 0 }.broadened();
     let vapour = Air { p: 0, t: 0, e: 1 }.broadened();
     for sentence in [
         format!("A load sets the zero to 0, the span to {unit} and absolute mode;"),
-        format!("counts each accepted sample; its {readings}th is counted and closes it."),
+        format!(
+            "counts each accepted sample; its {readings}th, or its {short}th after a short start, is \
+             counted and closes it."
+        ),
         format!("with R the least signal from 0 to {signal} whose reading"),
         format!("D = {pressure} P + {vapour} e: z = near({} V / D)", number(100 * rules::P0)),
         format!("the least S from {lowest} to {highest} under which"),

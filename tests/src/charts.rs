@@ -58,21 +58,26 @@ impl<'a> Row<'a> {
 
     /// What an area answers now.
     fn area(&mut self) -> String {
-        numbers(&self.feed(Entry::Known(Event::Area)))
+        told(&self.feed(Entry::Known(Event::Area)))
     }
 
-    /// How the integration stands, and how many readings it has counted.
+    /// How the integration stands, how many readings it has counted, and of a running one its limit.
     fn standing(&self) -> String {
         match self.state.integration {
             Integration::Idle => "idle".to_string(),
-            Integration::Running { tally, .. } => format!("running {}", tally.n),
+            Integration::Running { tally, limit } => format!("running {} of {limit}", tally.n),
             Integration::Closed(tally) => format!("closed {}", tally.n),
         }
     }
 }
 
-fn numbers(answer: &Answer) -> String {
-    format!("{} {} {} {}", answer.refusal, answer.m, answer.x, answer.y)
+/// n and area, or the number of a refusal; of other answers that they are none.
+fn told(answer: &Answer) -> String {
+    match (answer.refusal, answer.kind) {
+        (0, kind) if kind == Event::Area.kind() => format!("{} {}", answer.m, answer.x),
+        (0, _) => "accepted".to_string(),
+        (refusal, _) => format!("refused {refusal}"),
+    }
 }
 
 /// The first table by an engine with this step: a start and so many samples, the area then, and how
@@ -121,7 +126,7 @@ fn event_row(step: Step, before: Before, (event, entry): &(&str, Entry)) -> Stri
     let mut row = Row::after(step, events, samples);
     let (answer, standing) = (row.feed(*entry), row.standing());
     row.read(LATER);
-    format!("{name} | {event} | {} | {standing} | {}\n", numbers(&answer), row.area())
+    format!("{name} | {event} | {} | {standing} | {}\n", told(&answer), row.area())
 }
 
 /// The second table by an engine with this step: events where an integration stands in every way.

@@ -44,18 +44,18 @@ fn assert_row(row: &str) {
 #[test]
 fn lengths_by_hand() {
     for (kind, samples, counted, stands) in [
-        (10, 5_999, 5_999, "running"),
-        (10, 6_000, 6_000, "closed"),
-        (10, 6_001, 6_000, "closed"),
-        (7, 5_999, 5_999, "running"),
-        (7, 6_000, 6_000, "running"),
-        (7, 6_001, 6_001, "running"),
-        (7, 599_999, 599_999, "running"),
-        (7, 600_000, 600_000, "closed"),
-        (7, 600_001, 600_000, "closed"),
+        (10, 5_999, 5_999, "running 5999 of 6000"),
+        (10, 6_000, 6_000, "closed 6000"),
+        (10, 6_001, 6_000, "closed 6000"),
+        (7, 5_999, 5_999, "running 5999 of 600000"),
+        (7, 6_000, 6_000, "running 6000 of 600000"),
+        (7, 6_001, 6_001, "running 6001 of 600000"),
+        (7, 599_999, 599_999, "running 599999 of 600000"),
+        (7, 600_000, 600_000, "closed 600000"),
+        (7, 600_001, 600_000, "closed 600000"),
     ] {
         let area = area(1, counted);
-        assert_row(&format!("{kind} | {samples} | 0 {counted} {area} 0 | {stands} {counted}"));
+        assert_row(&format!("{kind} | {samples} | {counted} {area} | {stands}"));
     }
     // The areas of the two limits apart: one reading more or less would show.
     assert!([5_999, 6_001].iter().all(|n| area(1, *n) != area(1, 6_000)));
@@ -72,26 +72,25 @@ fn starts_by_hand() {
         ("kind 10, 6000 samples", 6_001),
     ] {
         for (kind, limit) in [(7, 600_000), (10, 6_000)] {
-            let area = area(from, limit);
-            assert_row(&format!(
-                "{before} | kind {kind} | 0 0 0 0 | running 0 | 0 {limit} {area} 0"
-            ));
+            let begun = format!("accepted | running 0 of {limit} | {limit} {}", area(from, limit));
+            assert_row(&format!("{before} | kind {kind} | {begun}"));
         }
     }
     for (kind, limit) in [(7, 600_000), (10, 6_000)] {
-        let (before, area) = (format!("kind {kind}, 3 samples"), area(1, limit));
-        let (stays, ends) = (format!("0 {limit} {area} 0"), format!("0 3 {three} 0"));
-        assert_row(&format!("{before} | stop | 0 0 0 0 | closed 3 | {ends}"));
-        assert_row(&format!("{before} | area | {ends} | running 3 | {stays}"));
-        assert_row(&format!("{before} | refused sample | 6 0 0 0 | closed 3 | {ends}"));
-        assert_row(&format!("{before} | malformed 6 | 11 0 0 0 | closed 3 | {ends}"));
-        assert_row(&format!("{before} | malformed 10 | 11 0 0 0 | running 3 | {stays}"));
-        assert_row(&format!("{before} | zero | 0 0 0 0 | idle | 10 0 0 0"));
-        assert_row(&format!("no sheet | kind {kind} | 1 0 0 0 | idle | 1 0 0 0"));
+        let before = format!("kind {kind}, 3 samples");
+        let goes_on = format!("running 3 of {limit} | {limit} {}", area(1, limit));
+        let ends = format!("closed 3 | 3 {three}");
+        assert_row(&format!("{before} | stop | accepted | {ends}"));
+        assert_row(&format!("{before} | area | 3 {three} | {goes_on}"));
+        assert_row(&format!("{before} | refused sample | refused 6 | {ends}"));
+        assert_row(&format!("{before} | malformed 6 | refused 11 | {ends}"));
+        assert_row(&format!("{before} | malformed 10 | refused 11 | {goes_on}"));
+        assert_row(&format!("{before} | zero | accepted | idle | refused 10"));
+        assert_row(&format!("no sheet | kind {kind} | refused 1 | idle | refused 1"));
     }
-    let closed = format!("0 6000 {closed} 0");
-    assert_row(&format!("kind 10, 6000 samples | stop | 10 0 0 0 | closed 6000 | {closed}"));
-    assert_row(&format!("kind 10, 6000 samples | area | {closed} | closed 6000 | {closed}"));
+    let stays = format!("closed 6000 | 6000 {closed}");
+    assert_row(&format!("kind 10, 6000 samples | stop | refused 10 | {stays}"));
+    assert_row(&format!("kind 10, 6000 samples | area | 6000 {closed} | {stays}"));
 }
 
 #[test]

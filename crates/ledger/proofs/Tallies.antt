@@ -80,7 +80,7 @@ pub data Keeps : Integration → List ℤ → List Fraction → Bool → ℕ →
   idle : {limit : ℕ} → Keeps Integration.Idle [] [] false limit
   running : {chart : Chart} {ws : List ℤ} {xs : List Fraction} → EachWithin ws xs → EachSmall ws → length ws < integrationLimit chart
       → Keeps (Integration.Running chart (tallyOf ws)) ws xs true (integrationLimit chart)
-  closed : {ws : List ℤ} {xs : List Fraction} {limit : ℕ} → EachWithin ws xs → EachSmall ws → length ws ≤ 600000
+  closed : {ws : List ℤ} {xs : List Fraction} {limit : ℕ} → EachWithin ws xs → EachSmall ws → length ws ≤ integrationLimit Chart.Long
       → Keeps (Integration.Closed (tallyOf ws)) ws xs false limit
 
 pub started : (chart : Chart) → Keeps (Integration.Running chart emptyTally) [] [] true (integrationLimit chart)
@@ -88,11 +88,11 @@ started Chart.Long = running {chart = Chart.Long} empty none (omega arith)
 started Chart.Short = running {chart = Chart.Short} empty none (omega arith)
 
 -- no chart has a higher limit than the long one
-limit-most : (chart : Chart) → integrationLimit chart ≤ 600000
+limit-most : (chart : Chart) → integrationLimit chart ≤ integrationLimit Chart.Long
 limit-most Chart.Long = omega arith
 limit-most Chart.Short = omega arith
 
-below-most : (chart : Chart) {n : ℕ} → n ≤ integrationLimit chart → n ≤ 600000
+below-most : (chart : Chart) {n : ℕ} → n ≤ integrationLimit chart → n ≤ integrationLimit Chart.Long
 below-most chart l = omega (arith, limit-most chart)
 
 pub keeps-closed : {i : Integration} {ws : List ℤ} {xs : List Fraction} {b : Bool} {limit : ℕ} → Keeps i ws xs b limit → Keeps (closedOf i) ws xs false limit
@@ -125,9 +125,9 @@ keeps-counted {ws = ws} {w = w} (running {chart} e r l) n h =
     (λ t. let f : length ws + 1 ≡ integrationLimit chart → ⊥ = eqb-false _ _ t in omega arith) (omega arith))
 
 -- ---- such an integration is within what the code can work with
-tally-within : (ws : List ℤ) → EachSmall ws → length ws ≤ 600000 → integrationWithin (Integration.Closed (tallyOf ws)) ≡ true
+tally-within : (ws : List ℤ) → EachSmall ws → length ws ≤ integrationLimit Chart.Long → integrationWithin (Integration.Closed (tallyOf ws)) ≡ true
 tally-within ws r l =
-    rw (le-leb (length ws) 600000 l, le-leb _ 3000000000 (small-at r 0), le-leb _ 3000000000 (small-at r (length ws - 1)))
+    rw (le-leb (length ws) (integrationLimit Chart.Long) l, le-leb _ 3000000000 (small-at r 0), le-leb _ 3000000000 (small-at r (length ws - 1)))
     (le-leb (natAbs (sumOf ws)) 1800000000000000 (omega (arith, small-sum r)))
 
 pub keeps-within : {i : Integration} {ws : List ℤ} {xs : List Fraction} {b : Bool} {limit : ℕ} → Keeps i ws xs b limit → integrationWithin i ≡ true

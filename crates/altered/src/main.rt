@@ -290,6 +290,7 @@ fn settings() {
     known(b"start", Event::Start);
     known(b"stop", Event::Stop);
     known(b"area", Event::Area);
+    known(b"short start", Event::StartShort);
 }
 
 // Samples at the stored P and T, and at others: what is found there stays stored, also where the sample is refused, unless it is with 6.

@@ -2,10 +2,10 @@
 // absolute mode; sample i of a row, from 1, has raw 45,000,000 − 30 i + 700 (i mod 11), P 101,300, T 29,815, e 0.
 //
 // What `stdout` holds, and where it comes from. First, after a start of each kind and samples up to its limit and beyond, the area (n and area) and how
-// the integration stands: idle, running, with its n and its limit, or closed, with its n. Then, for what may stand before it, an event that starts, stops
-// or closes one, or leaves it: its answer, how the integration stands after it, and the area after 600,001 samples more, whose n says what the integration
-// closed at. All of it was computed by the independent implementation in tests/, which works from documents 01 and 02 alone, and a test holds the file to
-// it.
+// the integration stands: idle, running, with its n and its limit, or closed, with its n. Then, for what may stand before it, an event that starts, stops,
+// closes or discards one, or leaves it: its answer, how the integration stands after it, and the area after 600,001 samples more: its n is where the
+// integration closed, and it is refused where none stands. The refused sample has raw 150,000,001, the zero raw 0; a malformed event has the kind byte that is
+// named. All of it was computed by the independent implementation in tests/, which works from documents 01 and 02 alone, and a test holds the file to it.
 ghost use Prim.Native.Nat.{_≤_};
 use counting::Integration;
 use counting::limit_of;
@@ -52,7 +52,10 @@ fn tables(sheets: &[u8]) {
     events(sheets, b"kind 10, 3 samples", Event::StartShort);
     let closed = sampled(sheets, started(sheets, Event::StartShort), 0, 6000);
     starts(sheets, b"kind 10, 6000 samples", closed, 6000);
-    readings(sheets, b"kind 10, 6000 samples", closed, 6000);
+    ends(sheets, b"kind 10, 6000 samples", closed, 6000);
+    // More than a short one can count: that n must not stay.
+    let longer = sampled(sheets, started(sheets, Event::Start), 0, 6001);
+    starts(sheets, b"kind 7, 6001 samples", longer, 6001);
 }
 
 // One sample short of each limit, at it and beyond it; what closes a short one does not close a long one.
@@ -97,11 +100,11 @@ fn started(sheets: &[u8], start: Event) -> State {
     next.state
 }
 
-// Every event that has to do with an integration, and some that should leave it.
+// Both starts, what closes a running one, what discards it, and what leaves it.
 fn events(sheets: &[u8], before: &[u8], start: Event) {
     let st = sampled(sheets, started(sheets, start), 0, 3);
     starts(sheets, before, st, 3);
-    readings(sheets, before, st, 3);
+    ends(sheets, before, st, 3);
     row(sheets, before, st, 3, b"refused sample", sample(150000001));
     row(sheets, before, st, 3, b"malformed 6", Entry::Malformed(6));
     row(sheets, before, st, 3, b"malformed 10", Entry::Malformed(10));
@@ -136,7 +139,8 @@ fn starts(sheets: &[u8], before: &[u8], st: State, samples: u32)
     );
 }
 
-fn readings(sheets: &[u8], before: &[u8], st: State, samples: u32)
+// A stop, and the area, which leaves it.
+fn ends(sheets: &[u8], before: &[u8], st: State, samples: u32)
     requires { ⌜ samples ≤ 10000 ⌝ }
 {
     row(
@@ -210,7 +214,7 @@ fn print_area(sheets: &[u8], st: State) {
     print_answer(answer);
 }
 
-// n and area, or the number of the refusal; of other answers that they are none.
+// n and area, or the number of the refusal; other answers are only said to be accepted.
 fn print_answer(a: Answer) {
     match a {
         Answer::Area { n, area } => {

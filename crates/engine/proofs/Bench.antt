@@ -20,7 +20,7 @@ use Rattle.counting.specs.declared.Chart.{Chart}
 use Rattle.counting.specs.declared.Integration.{Integration}
 use Rattle.rules.specs.declared.Answer.{Answer}
 use Rattle.rules.specs.declared.Stepped.{Stepped}
-use Rattle.counting.specs.Integration.{emptyTally, countedOf, tallyArea}
+use Rattle.counting.specs.Integration.{started, countedOf, tallyArea}
 use Rattle.sampling.specs.Sample.{sampledOn}
 use Rattle.store.specs.declared.Stored.{Stored}
 use Rattle.store.specs.Store.{storedOn}
@@ -63,14 +63,14 @@ module _ (i : Integration) where
 
 -- what is counted after a start and the first reading
 abbrev counted-1 : Integration
-counted-1 = countedOf (Integration.Running Chart.Long emptyTally) (pos 1000000000)
+counted-1 = countedOf (started Chart.Long) (pos 1000000000)
 
 -- the state after a start and the three readings; the second sample is any that is read as wet, and counted
 three-state : (raw wet : ℤ)
     → rules [] (counting there counted-1) (sample raw) ≡ answered (Answer.Reading 40000000 wet wet) (counting there (countedOf counted-1 wet))
     → after (referenceState Stored.Empty) (start ∷ sample (pos 0) ∷ sample raw ∷ sample (pos 0) ∷ []) ≡ counting there (countedOf (countedOf counted-1 wet) (pos 1000000000))
 three-state raw wet e =
-    ap (λ (x : Stepped). after (x .state) (sample raw ∷ sample (pos 0) ∷ [])) (low-first (Integration.Running Chart.Long emptyTally))
+    ap (λ (x : Stepped). after (x .state) (sample raw ∷ sample (pos 0) ∷ [])) (low-first (started Chart.Long))
     ∙ ap (λ (x : Stepped). after (x .state) (sample (pos 0) ∷ [])) e
     ∙ ap (λ (x : Stepped). x .state) (low (countedOf counted-1 wet))
 

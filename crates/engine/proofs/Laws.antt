@@ -7,7 +7,7 @@ use Prim.Native.Nat.{ℕ}
 use lib.Dec.{T, eqb}
 use Rattle.curve.specs.declared.Sheet.{Sheet}
 use Rattle.counting.specs.declared.Chart.{Chart}
-use Rattle.counting.specs.Charts.{started}
+use Rattle.counting.specs.Integration.{started}
 use Rattle.sheets.specs.declared.Lookup.{Lookup}
 use Rattle.sheets.specs.Sheets.{lookupRefusal, lookupOf}
 use Rattle.sheets.proofs.Numbers.{lookup-number}

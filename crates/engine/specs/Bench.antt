@@ -9,8 +9,7 @@ use Rattle.curve.specs.Bench.{benchSheet, StarredReadings}
 use Rattle.reference.specs.declared.Found.{Found}
 use Rattle.reference.specs.Bench.{smallSheet, StarredReferences}
 use Rattle.counting.specs.declared.Chart.{Chart}
-use Rattle.counting.specs.declared.Integration.{Integration}
-use Rattle.counting.specs.Integration.{emptyTally, countedOf}
+use Rattle.counting.specs.Integration.{started, countedOf}
 use Rattle.sampling.specs.declared.Mode.{Mode}
 use Rattle.sampling.specs.declared.Measurement.{Measurement}
 use Rattle.store.specs.declared.Stored.{Stored}
@@ -50,7 +49,7 @@ foundThere f = storedAs 101300 29815 f
 
 -- the bench sheet, after a start, X counted
 abbrev pub countedOnce : ℤ → State
-countedOnce x = withIntegration benchState (countedOf (Integration.Running Chart.Long emptyTally) x)
+countedOnce x = withIntegration benchState (countedOf (started Chart.Long) x)
 
 -- ---- entries
 

@@ -1,11 +1,11 @@
 -- Three laws of a step: what it sees of the list of sheets; that an accepted load leaves nothing of the state before it; and that kind 10 is
--- accepted and refused as kind 7 is (R-10). Assumes nothing.
+-- accepted and refused as kind 7 is, and what either leaves (R-10). Assumes nothing.
 use Prim.Native.Nat.{ℕ}
 use mathlib.Core.Bool.{Bool, true, false}
 use mathlib.Core.List.{List}
 use mathlib.Core.Path.{_≡_}
 use Rattle.counting.specs.declared.Chart.{Chart}
-use Rattle.counting.specs.Charts.{started}
+use Rattle.counting.specs.Integration.{started}
 use Rattle.sheets.specs.Sheets.{lookupRefusal, lookupOf}
 use Rattle.rules.specs.declared.State.{State}
 use Rattle.rules.specs.declared.Event.{Event}
@@ -51,7 +51,8 @@ pub record Begins (sheets : List ℕ) (st : State) (event : Event) (chart : Char
   pub begun : accepted (stepOf sheets st (Entry.Known event) .answer) ≡ true
       → stepOf sheets st (Entry.Known event) .state ≡ withIntegration st (started chart)
 
--- R-10, at every record, altered ones too: a short start gets the answer that a start gets there, and each begins for its chart
+-- R-10, at every record, altered ones too: a short start gets the answer that a start gets there, but for the kind byte of its record, and each
+-- begins for its chart
 pub record StartsAlike (sheets : List ℕ) (st : State) : Type 0 where
   pub answer : stepOf sheets st (Entry.Known Event.StartShort) .answer ≡ stepOf sheets st (Entry.Known Event.Start) .answer
   pub long : Begins sheets st Event.Start Chart.Long

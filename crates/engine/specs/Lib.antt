@@ -2,3 +2,4 @@ pub mod Step
 pub mod Bench
 pub mod Transcript
 pub mod Laws
+pub mod Charts

@@ -35,7 +35,7 @@ use Rattle.engine.proofs.Cases.{long, short, closing, Ruled, refuses, malformed
 use Rattle.ledger.specs.Ledger.{Ledger, withSeries, taken, exactValue, refusedBy, ledgerStep}
 use Rattle.ledger.specs.Wets.{wetsStep}
 use Rattle.ledger.specs.Claim.{RefusalHolds, LedgerHolds}
-use Rattle.ledger.proofs.Tallies.{tallyOf, tally-area, Keeps, idle, started, keeps-closed, keeps-counted, keeps-tally, keeps-within, takenAtEnd, takenRuns}
+use Rattle.ledger.proofs.Tallies.{tallyOf, tally-area, Keeps, idle, keeps-started, keeps-closed, keeps-counted, keeps-tally, keeps-within, takenAtEnd, takenRuns}
 use Rattle.ledger.proofs.Samples.{ledgerAt, sample-worth}
 
 -- ---- settings within their limits
@@ -158,8 +158,8 @@ module _ (sheets : List ℕ) (st : State) {ws : List ℤ} {xs : List Fraction} {
       let v = exactValue g at r in
       makes (takenAtEnd xs b v) (takenRuns xs b m) m tt (w .holds) h (keeps-counted k (w .near) (wet-in (h .sheet) x)) (taken-is v)
   good (closes {number = number} n) = refusal number false n tt h (keeps-closed k) refl
-  good (starts long) = makes [] true _ tt tt h (started Chart.Long) refl
-  good (starts short) = makes [] true _ tt tt h (started Chart.Short) refl
+  good (starts long) = makes [] true _ tt tt h (keeps-started Chart.Long) refl
+  good (starts short) = makes [] true _ tt tt h (keeps-started Chart.Short) refl
   good stops = makes xs false m tt tt h (keeps-closed k) refl
   good (totals t) = area-good (keeps-tally k t .0) (keeps-tally k t .1)
 

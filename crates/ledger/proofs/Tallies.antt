@@ -19,7 +19,7 @@ use Rattle.exact.proofs.Area.{same-length, each-append, by-the-letter}
 use Rattle.counting.specs.declared.Chart.{Chart}
 use Rattle.counting.specs.declared.Tally.{Tally}
 use Rattle.counting.specs.declared.Integration.{Integration}
-use Rattle.counting.specs.Integration.{integrationLimit, emptyTally, talliedOf, countedOf, closedOf, tallyArea}
+use Rattle.counting.specs.Integration.{integrationLimit, started, talliedOf, countedOf, closedOf, tallyArea}
 use Rattle.counting.specs.Limits.{integrationWithin}
 use Rattle.engine.proofs.Cases.{Tallied, in-running, in-closed}
 
@@ -83,9 +83,9 @@ pub data Keeps : Integration → List ℤ → List Fraction → Bool → ℕ →
   closed : {ws : List ℤ} {xs : List Fraction} {limit : ℕ} → EachWithin ws xs → EachSmall ws → length ws ≤ integrationLimit Chart.Long
       → Keeps (Integration.Closed (tallyOf ws)) ws xs false limit
 
-pub started : (chart : Chart) → Keeps (Integration.Running chart emptyTally) [] [] true (integrationLimit chart)
-started Chart.Long = running {chart = Chart.Long} empty none (omega arith)
-started Chart.Short = running {chart = Chart.Short} empty none (omega arith)
+pub keeps-started : (chart : Chart) → Keeps (started chart) [] [] true (integrationLimit chart)
+keeps-started Chart.Long = running {chart = Chart.Long} empty none (omega arith)
+keeps-started Chart.Short = running {chart = Chart.Short} empty none (omega arith)
 
 -- no chart has a higher limit than the long one
 limit-most : (chart : Chart) → integrationLimit chart ≤ integrationLimit Chart.Long

@@ -70,7 +70,7 @@ longSeries = 600000
 abbrev pub shortSeries : ℕ
 shortSeries = 6000
 
--- the series is empty and runs
+-- the series is empty, runs, and takes so many values
 abbrev pub startedWith : Ledger → ℕ → Ledger
 startedWith g limit = record { sheet = g .sheet; q = g .q; s = g .s; mode = g .mode; series = []; runs = true; limit = limit }
 

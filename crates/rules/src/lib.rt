@@ -1,4 +1,4 @@
-// Document 01, "Engine and events": the state, its nine kinds of event and R-10's kind 10 with their answers, and the rules of kinds 1 to 5.
+// Document 01, "Engine and events": the state, the nine kinds of event and R-10's kind 10, with their answers, and the rules of kinds 1 to 5.
 ghost use mathlib.Core.Path.{_≡_};
 ghost use Rattle.rules.specs.Rules.{fresh};
 use counting::Integration;

@@ -96,6 +96,7 @@ fn settings() -> String {
         ("start", Event::Start),
         ("stop", Event::Stop),
         ("area", Event::Area),
+        ("short start", Event::StartShort),
     ];
     cases.map(|(label, event)| shows(label, bench_holding(), Entry::Known(event))).concat()
 }

@@ -103,6 +103,8 @@ const IDLE: Before = ("idle", &[LOAD], 0);
 const LONG_RUNS: Before = ("kind 7, 3 samples", &[LOAD, Event::Start], 3);
 const SHORT_RUNS: Before = ("kind 10, 3 samples", &[LOAD, Event::StartShort], 3);
 const SHORT_CLOSED: Before = ("kind 10, 6000 samples", &[LOAD, Event::StartShort], 6_000);
+/// More readings than a short one can count.
+const LONG_FAR: Before = ("kind 7, 6001 samples", &[LOAD, Event::Start], 6_001);
 
 /// The event of a row with its name: first the two starts, then what needs an integration, then
 /// what is tried on a running one alone.
@@ -129,10 +131,18 @@ fn event_row(step: Step, before: Before, (event, entry): &(&str, Entry)) -> Stri
     format!("{name} | {event} | {} | {standing} | {}\n", told(&answer), row.area())
 }
 
-/// The second table by an engine with this step: events where an integration stands in every way.
+/// The second table by an engine with this step: events with no sheet, and where an integration is
+/// idle, runs or is closed.
 pub fn starts(step: Step) -> String {
     let title = "before | event | answer | integration | area after 600001 samples more\n";
-    let cases = [(NO_SHEET, 2), (IDLE, 2), (LONG_RUNS, 8), (SHORT_RUNS, 8), (SHORT_CLOSED, 4)];
+    let cases = [
+        (NO_SHEET, 2),
+        (IDLE, 2),
+        (LONG_RUNS, 8),
+        (SHORT_RUNS, 8),
+        (SHORT_CLOSED, 4),
+        (LONG_FAR, 2),
+    ];
     let rows = cases.map(|(before, count)| {
         events()[..count].iter().map(|event| event_row(step, before, event)).collect::<String>()
     });

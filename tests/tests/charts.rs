@@ -70,6 +70,7 @@ fn starts_by_hand() {
         ("kind 7, 3 samples", 4),
         ("kind 10, 3 samples", 4),
         ("kind 10, 6000 samples", 6_001),
+        ("kind 7, 6001 samples", 6_002),
     ] {
         for (kind, limit) in [(7, 600_000), (10, 6_000)] {
             let begun = format!("accepted | running 0 of {limit} | {limit} {}", area(from, limit));
@@ -97,7 +98,7 @@ fn starts_by_hand() {
 fn as_many_rows_as_there_are_cases() {
     let text = text();
     let widths: Vec<usize> = text.lines().map(|line| line.split(" | ").count()).collect();
-    assert_eq!(widths, [vec![4; 1 + 9], vec![5; 1 + 2 + 2 + 8 + 8 + 4]].concat());
+    assert_eq!(widths, [vec![4; 1 + 9], vec![5; 1 + 2 + 2 + 8 + 8 + 4 + 2]].concat());
     assert!(text.ends_with('\n') && !text.contains("  "));
 }
 

@@ -351,12 +351,15 @@ struct ShortMet {
     no_sheet: u32,
     idle: u32,
     running: [u32; 2],
+    /// While one runs that has counted nothing yet.
+    running_empty: u32,
     closed: [u32; 2],
     /// Malformed by one field alone, by the bytes behind the kind alone, and in any way while an
-    /// integration runs.
+    /// integration runs, and where there is no sheet: 11 comes before 1.
     fields: [u32; 5],
     padding: u32,
     malformed_running: [u32; 2],
+    malformed_no_sheet: u32,
     /// A long start while a short integration runs, and after a closed one.
     long_after: [u32; 2],
     /// A short integration that a stop closes, and a refused sample.
@@ -380,7 +383,10 @@ impl ShortMet {
     fn start(&mut self, state: &State, begun: Begun) {
         match state.integration {
             Integration::Idle => self.idle += 1,
-            Integration::Running { .. } => self.running[usize::from(begun.short)] += 1,
+            Integration::Running { tally, .. } => {
+                self.running[usize::from(begun.short)] += 1;
+                self.running_empty += u32::from(tally.n == 0);
+            }
             Integration::Closed(_) => self.closed[usize::from(begun.short)] += 1,
         }
     }
@@ -395,6 +401,7 @@ impl ShortMet {
         self.padding += u32::from(count == 0 && padding);
         let runs = matches!(state.integration, Integration::Running { .. });
         self.malformed_running[usize::from(begun.short)] += u32::from(runs);
+        self.malformed_no_sheet += u32::from(state.sheet.is_none());
     }
 
     /// What another event does to a short integration or gets of it.
@@ -443,8 +450,9 @@ fn short_starts() {
     for counts in [&begun, &closed, &met.fields] {
         assert!(counts.iter().all(|count| *count >= 40), "{met:?}");
     }
-    let others = [met.no_sheet, met.padding, met.malformed_running[0], met.malformed_running[1]];
-    assert!(others.iter().all(|count| *count >= 40), "{met:?}");
+    let malformed = [met.malformed_running[0], met.malformed_running[1], met.malformed_no_sheet];
+    let others = [met.no_sheet, met.running_empty, met.padding];
+    assert!(malformed.iter().chain(&others).all(|count| *count >= 40), "{met:?}");
     assert!(met.areas.iter().all(|count| *count >= 500), "{met:?}");
 }
 

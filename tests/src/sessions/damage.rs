@@ -82,7 +82,7 @@ pub fn spoil(random: &mut Random, record: &mut EventRecord) {
     // The sign of raw, and the highest bit of the others, more often than a bit below.
     let bit = 1 << if random.percent(25) { 31 } else { random.below(32) };
     match random.below(7) {
-        0 => record.kind = random.pick(&[0, 10, 11, 22, 128, 255, 6]),
+        0 => record.kind = random.pick(&[0, 10, 11, 12, 22, 128, 255, 6]),
         1 => record.padding[random.below(3) as usize] = 1 << random.below(8),
         2 => record.raw ^= bit as i32,
         3 => record.c ^= bit,

@@ -2,7 +2,7 @@
 use Prim.Native.Nat.{ℕ}
 use native.Mathlib.Omega.{arith}
 use mathlib.Core.Bool.{Bool, true, false, cond}
-use mathlib.Core.List.{List, [], _∷_, _++_, map, append-nil}
+use mathlib.Core.List.{List, [], _∷_, map, append-nil}
 use mathlib.Core.Path.{_≡_, refl, sym, ap, subst, _∙_}
 use lib.Dec.{T, eqb}
 use lib.IntN.{ℤ}
@@ -10,8 +10,8 @@ use lib.ListN.{length, length-map}
 use Rattle.counting.specs.declared.Chart.{Chart}
 use Rattle.counting.specs.declared.Tally.{Tally}
 use Rattle.counting.specs.declared.Integration.{Integration}
-use Rattle.counting.specs.Integration.{integrationLimit, started, emptyTally, countedOf, closedOf}
-use Rattle.counting.specs.Charts.{talliedAll, countedAll}
+use Rattle.counting.specs.Integration.{integrationLimit, started, countedOf, closedOf}
+use Rattle.counting.specs.Charts.{countedAll}
 use Rattle.counting.proofs.Charts.{closes-at}
 use Rattle.sampling.specs.declared.Measurement.{Measurement}
 use Rattle.sampling.specs.declared.Sampled.{Sampled}
@@ -26,7 +26,7 @@ use Rattle.rules.specs.Answer.{xOf, accepted}
 use Rattle.rules.specs.Rules.{refused}
 use Rattle.rules.specs.Limits.{workable}
 use Rattle.events.specs.Sample.{storing, sampledOf}
-use Rattle.events.specs.Events.{withIntegration, sampleAnswer, sampleAfter, sampleRule}
+use Rattle.events.specs.Events.{sampleAnswer, sampleAfter, sampleRule}
 use Rattle.engine.specs.Step.{stepOf}
 use Rattle.engine.specs.Transcript.{Line, transcript, leaves}
 use Rattle.engine.specs.Laws.{Begins}

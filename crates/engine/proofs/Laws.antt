@@ -4,7 +4,7 @@ use mathlib.Core.Bool.{Bool, true, false, cond}
 use mathlib.Core.List.{List}
 use mathlib.Core.Path.{_≡_, refl, sym, subst, _∙_}
 use Prim.Native.Nat.{ℕ}
-use lib.Dec.{T, eqb}
+use lib.Dec.{T}
 use Rattle.curve.specs.declared.Sheet.{Sheet}
 use Rattle.counting.specs.declared.Chart.{Chart}
 use Rattle.counting.specs.Integration.{started}

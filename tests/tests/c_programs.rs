@@ -625,15 +625,16 @@ fn words_of_sessions() {
     for profile in PROFILES.iter().cycle().take(4 * PROFILES.len()) {
         let session = sessions::session(&mut random, profile).to_bytes();
         fs::write(&path, &session).expect("a written file");
-        let words = ["current", "-100000000", "1000000000", "15"].map(Path::new);
+        let words = ["current", "-10000000", "1000000000", "15"].map(Path::new);
         let output = run(&program, &words, Some(&path));
         assert_eq!((output.status.code(), output.stderr.is_empty()), (Some(0), true));
-        let expected = drawn(&session, Kind::Current, -100_000_000, 1_000_000_000, 15);
+        let expected = drawn(&session, Kind::Current, -10_000_000, 1_000_000_000, 15);
         assert_eq!(String::from_utf8_lossy(&output.stdout), expected);
         printed += &expected;
     }
     let with = |word: &str| printed.matches(word).count();
     let (all, low, high) = (printed.lines().count(), with("word F000"), with("word FFFF"));
+    println!("{low} at the low end and {high} at the high one, of {all}");
     assert!(low > 0 && high > 0 && low + high < all / 2, "{low} and {high} of {all}");
 }
 

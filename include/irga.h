@@ -117,11 +117,14 @@ enum irga_kind {
     IRGA_ABSOLUTE = 5,  /* read against nothing from now on */
     IRGA_SAMPLE = 6,    /* raw, P, T, e: read a sample. m: reference signal, 0 in absolute mode;
                            x: wet; y: dry */
-    IRGA_START = 7,     /* start an integration: of samples, one every 0.2 s; it closes by itself
-                           at its 600,000th */
+    IRGA_START = 7,     /* start an integration: of samples, one every 0.2 s. A new one begins,
+                           also while one runs */
     IRGA_STOP = 8,      /* stop it */
     IRGA_AREA = 9,      /* m: readings counted; x: area, in pmol/mol times 0.1 s */
-    IRGA_START_SHORT = 10 /* the same as IRGA_START, for a short chart: it closes at its 6,000th */
+    IRGA_START_SHORT = 10 /* start an integration for a short chart: it closes by itself at its
+                           6,000th reading, where that of IRGA_START does at its 600,000th; later
+                           samples are answered and not counted. No session file is long enough
+                           for either limit: in irga_run the two differ by the kind alone */
 };
 
 /* What a channel of a chart recorder is driven by. */

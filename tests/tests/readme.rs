@@ -369,15 +369,14 @@ fn a_session_file_in_minutes() {
     assert_eq!(file::EVENTS_LIMIT / 5 / 60, 9);
     assert_says("a session file holds nine minutes of readings");
     assert_eq!(SHORT_LIMIT / 5 / 60, 20);
-    assert_says("room for 6,000 readings, 20 minutes of them at 0.2 s");
+    assert_says("has room for 6,000 readings, 20 minutes of them at 0.2 s");
 }
 
-/// The row of the program `charts` that stands for its text.
+/// The first lines of what the program `charts` prints.
 #[test]
-fn a_row_of_charts() {
-    let row = "10 | 6000 | 6000 781603820 | closed 6000";
-    assert!(include_str!("../../crates/charts/stdout").lines().any(|line| line == row));
-    assert_says(&format!("`{row}` for one: kind 10, 6,000 samples, n and area"));
+fn the_first_lines_of_charts() {
+    let printed: Vec<&str> = include_str!("../../crates/charts/stdout").lines().take(4).collect();
+    assert!(README.contains(&format!("```\n{}\n```", printed.join("\n"))), "{printed:?}");
 }
 
 /// The smallest units of a mole fraction, and of an area, which counts in 0.1 s.

@@ -46,16 +46,13 @@ static uint8_t *next(struct records *to) {
     return to->bytes + to->length - IRGA_RECORD_BYTES;
 }
 
-/* issued is the sheet's date as yyyymmdd, or 0: an undated sheet always serves. */
-static void add_sheet(int32_t a1, int32_t a2, int32_t a3, uint32_t t0, uint32_t k,
-                      uint32_t issued) {
+static void add_sheet(int32_t a1, int32_t a2, int32_t a3, uint32_t t0, uint32_t k) {
     uint8_t *sheet = next(&sheets);
     put(sheet + IRGA_SHEET_A1, (uint32_t)a1);
     put(sheet + IRGA_SHEET_A2, (uint32_t)a2);
     put(sheet + IRGA_SHEET_A3, (uint32_t)a3);
     put(sheet + IRGA_SHEET_T0, t0);
     put(sheet + IRGA_SHEET_K, k);
-    put(sheet + IRGA_SHEET_ISSUED, issued);
 }
 
 static uint8_t *add(enum irga_kind kind) {
@@ -72,13 +69,9 @@ static void add_sample(int32_t raw) {
     put(event + IRGA_EVENT_T, 29815);
 }
 
-/*
- * Three readings against a dry reference gas of 1,000 umol/mol, and their area. A lesson that is
- * to be held to term dates has add(IRGA_CLOCK) after its load, with the minute of the day at
- * IRGA_EVENT_RAW and the date yyyymmdd at IRGA_EVENT_C.
- */
+/* Three readings against a dry reference gas of 1,000 umol/mol, and their area. */
 static void prepare(void) {
-    add_sheet(150000000, 5000000, 5000000, 29815, 200000000, 0);
+    add_sheet(150000000, 5000000, 5000000, 29815, 200000000);
     put(add(IRGA_LOAD) + IRGA_EVENT_C, 0);
     put(add(IRGA_REFERENCE) + IRGA_EVENT_C, 1000000000);
     add(IRGA_START);

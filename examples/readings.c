@@ -24,7 +24,7 @@ static uint8_t grounds[IRGA_GROUNDS_MAX];
 static const char *const meanings[] = {
     [IRGA_ACCEPTED] = "accepted",
     [IRGA_NO_SHEET] = "no sheet loaded, or its index is not in the file",
-    [IRGA_SHEET_LIMITS] = "the sheet is outside its limits, or its issue date is no date",
+    [IRGA_SHEET_LIMITS] = "the sheet is outside its limits",
     [IRGA_ZERO_RANGE] = "the zero is outside its range",
     [IRGA_CYLINDER_RANGE] = "the cylinder is outside its range",
     [IRGA_NO_SPAN] = "no span setting serves",
@@ -36,14 +36,11 @@ static const char *const meanings[] = {
     [IRGA_MALFORMED_EVENT] = "unknown kind, or a byte that must be zero and is not",
     [IRGA_MALFORMED_FILE] = "header or length not as the format says",
     [IRGA_OUTPUT_TOO_SHORT] = "the output is too short",
-    [IRGA_BAD_CLOCK] = "no date or no minute, or earlier than the clock that stands",
-    [IRGA_NOT_IN_TERM] = "out of hours, the sheet does not serve on this date, or its span is "
-                         "not of today",
 };
 
 static const char *meaning(unsigned refusal) {
     size_t known = sizeof meanings / sizeof meanings[0];
-    return refusal < known && meanings[refusal] != NULL ? meanings[refusal] : "unknown refusal";
+    return refusal < known ? meanings[refusal] : "unknown refusal";
 }
 
 /* Of a sample that is over range: the limit that it passes, and where to look. */

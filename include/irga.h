@@ -78,22 +78,20 @@ extern "C" {
 #define IRGA_RECORDER_MAX INT64_C(4000000000)
 #define IRGA_RECORDER_CHANNEL_MAX 15
 
-/* Where the fields of a sheet begin. */
+/* Where the fields of a sheet begin. Bytes 20 to 23 are zero. */
 #define IRGA_SHEET_A1 0  /* i32 */
 #define IRGA_SHEET_A2 4  /* i32 */
 #define IRGA_SHEET_A3 8  /* i32 */
 #define IRGA_SHEET_T0 12 /* u32 */
 #define IRGA_SHEET_K 16  /* u32 */
-#define IRGA_SHEET_ISSUED 20 /* u32: issue date yyyymmdd, 0 for undated */
 
 /*
  * Where the fields of an event begin. Bytes 1 to 3 are zero, and so is every field that its
  * kind does not have: see enum irga_kind.
  */
 #define IRGA_EVENT_KIND 0 /* u8: an enum irga_kind */
-#define IRGA_EVENT_RAW 4  /* i32: the raw signal; of a clock, the minute of the day */
-#define IRGA_EVENT_C 8    /* u32: the cylinder; of a load, the sheet's index from 0; of a clock,
-                             the date yyyymmdd */
+#define IRGA_EVENT_RAW 4  /* i32: the raw signal */
+#define IRGA_EVENT_C 8    /* u32: the cylinder; of a load, the sheet's index from 0 */
 #define IRGA_EVENT_P 12   /* u32: pressure */
 #define IRGA_EVENT_T 16   /* u32: temperature */
 #define IRGA_EVENT_E 20   /* u32: vapour pressure */
@@ -118,20 +116,15 @@ enum irga_kind {
     IRGA_REFERENCE = 4, /* C, e: read against a reference gas from now on */
     IRGA_ABSOLUTE = 5,  /* read against nothing from now on */
     IRGA_SAMPLE = 6,    /* raw, P, T, e: read a sample. m: reference signal, 0 in absolute mode;
-                           x: wet; y: dry. A refused one closes a running integration */
+                           x: wet; y: dry */
     IRGA_START = 7,     /* start an integration: of samples, one every 0.2 s. A new one begins,
                            also while one runs */
     IRGA_STOP = 8,      /* stop it */
     IRGA_AREA = 9,      /* m: readings counted; x: area, in pmol/mol times 0.1 s */
-    IRGA_START_SHORT = 10, /* start an integration for a short chart: it closes by itself at its
+    IRGA_START_SHORT = 10 /* start an integration for a short chart: it closes by itself at its
                            6,000th reading, where that of IRGA_START does at its 600,000th; later
                            samples are answered and not counted. No session file is long enough
                            for either limit: in irga_run the two differ by the kind alone */
-    IRGA_CLOCK = 11     /* raw: the minute of the day, 0 to 1,439; C: the date yyyymmdd: tell the
-                           clock. It needs no sheet and leaves the integration; a load clears it,
-                           and it does not go on by itself. Once it is told, spans and samples
-                           need school hours and a serving sheet, and samples a span of today,
-                           if any was set since the load: see IRGA_NOT_IN_TERM */
 };
 
 /* What a channel of a chart recorder is driven by. */
@@ -141,15 +134,14 @@ enum irga_channel_kind {
 };
 
 /*
- * Why an event (1 to 11, 19, 20), a file (12) or an output (13) is refused, why nothing is written
+ * Why an event (1 to 11), a file (12) or an output (13) is refused, why nothing is written
  * of sheets and events (11, 14, 15), why a page is turned away (12, 16, 17), and why a chart
  * recorder gets no word (18).
  */
 enum irga_refusal {
     IRGA_ACCEPTED = 0,
     IRGA_NO_SHEET = 1,             /* no sheet loaded, or its index not in the file */
-    IRGA_SHEET_LIMITS = 2,         /* sheet outside its limits, or its issue date neither 0 nor a
-                                      date */
+    IRGA_SHEET_LIMITS = 2,         /* sheet outside its limits, or its zero bytes not zero */
     IRGA_ZERO_RANGE = 3,           /* zero beyond 20,000,000 on either side */
     IRGA_CYLINDER_RANGE = 4,       /* cylinder, or its vapour pressure, outside its range */
     IRGA_NO_SPAN = 5,              /* no span serves, or one below the lowest would */
@@ -162,7 +154,7 @@ enum irga_refusal {
     IRGA_NOT_NOW = 10,             /* the event does not fit the mode or the integration */
     IRGA_MALFORMED_EVENT = 11,     /* unknown kind, or a byte of the event that must be zero
                                       and is not; in irga_write also a length that is no
-                                      multiple of 24 */
+                                      multiple of 24, or such a byte of a sheet */
     IRGA_MALFORMED_FILE = 12,      /* header or length not as the format says */
     IRGA_OUTPUT_TOO_SHORT = 13,    /* the output is shorter than the function asks */
     IRGA_TOO_MANY = 14,            /* more bytes than 16 sheets or 2,700 events have */
@@ -170,17 +162,9 @@ enum irga_refusal {
                                       written */
     IRGA_HEADER_INTERVAL = 16,     /* sample lines under a header line outside 1 to 999 */
     IRGA_PAGE_TOO_LONG = 17,       /* the buffer is shorter than the page */
-    IRGA_RECORDER_LIMITS = 18,     /* of a chart recorder: the value, an end of the scale or the
+    IRGA_RECORDER_LIMITS = 18      /* of a chart recorder: the value, an end of the scale or the
                                       channel outside its range, high not above low, or a kind
                                       that is no enum irga_channel_kind */
-    IRGA_BAD_CLOCK = 19,           /* of IRGA_CLOCK: no date from 20000101 to 20991231, no minute
-                                      from 0 to 1,439, or earlier than the clock that stands */
-    IRGA_NOT_IN_TERM = 20          /* of a span or a sample, the clock being told: the minute is
-                                      outside 480 to 1,019, or the sheet does not serve on that
-                                      date, as it does for two years from its issue; of a sample
-                                      also the last span since the load is of another day, or was
-                                      set before the clock was told. README.md says what to do,
-                                      under "Out of its term: what a technician does" */
 };
 
 /*
@@ -342,12 +326,11 @@ uint8_t irga_area(const uint8_t *answer, size_t answer_length, double *area);
  *   IRGA_TOO_MANY         sheets_length above 24 * IRGA_SHEETS_MAX or events_length above
  *                         24 * IRGA_EVENTS_MAX
  *   IRGA_MALFORMED_EVENT  a length that is no multiple of 24, an event of an unknown kind, or
- *                         a byte of an event that must be zero and is not
+ *                         a byte of a sheet or an event that must be zero and is not
  *   IRGA_NO_ROOM          out_length below 16 + sheets_length + events_length
  *
- * No limit of a number is looked at, nor whether a sheet with a load's index is there or an
- * issue date is one: such a number is written as given, and a run of the file refuses the event
- * that uses it.
+ * No limit of a number is looked at, nor whether a sheet with a load's index is there: such a
+ * number is written as given, and a run of the file refuses the event that uses it.
  *
  * Touches: with 0, the first *written bytes of out, 16 + sheets_length + events_length; with
  * 11, 14 or 15, *written is 0. All other bytes of out stay.

@@ -2,9 +2,9 @@
 //! implementation.
 
 use crate::bench;
-use crate::engine::{self, Answer, Entry, Event, Mode, State};
+use crate::engine::{self, Answer, Entry, Event, Integration, Mode, State};
 use crate::grounds;
-use crate::rules::{Refusal, Sheet};
+use crate::rules::{Refusal, Sheet, SPAN_UNIT};
 use crate::store::{self, Finding, Stored};
 
 const P: u32 = 101_300;
@@ -35,7 +35,7 @@ fn sample(raw: i32, p: u32, t: u32) -> Event {
 /// The bench sheet with this K in this mode, altered to hold this finding.
 fn holding(k: i64, found: Option<i64>, mode: Mode) -> (State, Stored) {
     let sheet = bench::sheet().accepted().map(|sheet| Sheet { k, ..sheet });
-    let state = State { sheet, mode, ..State::fresh() };
+    let state = State { sheet, q: 0, s: SPAN_UNIT, mode, integration: Integration::Idle };
     (state, Some(Finding { p: P.into(), t: T.into(), found }))
 }
 
@@ -83,17 +83,6 @@ fn bench_holding() -> (State, Stored) {
 
 const SPAN: Event = Event::Span { raw: 50_000_000, cylinder: 1_000_000_000, p: P, t: T, e: 0 };
 
-fn told(minute: i32) -> Event {
-    Event::Clock { date: 20_260_914, minute }
-}
-
-/// The record with the clock told before 8:00.
-fn early((state, stored): (State, Stored)) -> (State, Stored) {
-    let clock = Entry::Known(told(479));
-    let (_, next, kept) = store::step(None, &[bench::sheet()], (&state, stored), &clock);
-    (next, kept)
-}
-
 fn settings() -> String {
     let cases = [
         ("zero 0", Event::Zero { raw: 0 }),
@@ -108,9 +97,6 @@ fn settings() -> String {
         ("stop", Event::Stop),
         ("area", Event::Area),
         ("short start", Event::StartShort),
-        ("clock 20260914 540", told(540)),
-        ("clock 20260914 479", told(479)),
-        ("clock 20260914 1440", told(1_440)),
     ];
     cases.map(|(label, event)| shows(label, bench_holding(), Entry::Known(event))).concat()
 }
@@ -154,14 +140,6 @@ fn others() -> String {
     cases.map(|(label, record, entry)| shows(label, record, entry)).concat() + beyond
 }
 
-/// Before 8:00: a sample at another P and a span.
-fn hours() -> String {
-    let absolute = holding(200_000_000, Some(30_000_000), Mode::Absolute);
-    let sample = Entry::Known(sample(0, 101_299, T));
-    shows("at minute 479, P 101299", early(bench_holding()), sample)
-        + &shows("at minute 479, absolute mode, span", early(absolute), Entry::Known(SPAN))
-}
-
 /// Grounds where 150,000,000 is stored: at its P and T, at others, in absolute mode.
 fn places() -> String {
     let stored = holding(200_000_000, Some(150_000_000), against(0));
@@ -174,7 +152,6 @@ fn places() -> String {
         ("raw 150000000, P 101299", stored, sample(150_000_000, 101_299, T)),
         ("absolute mode, raw 0", absolute, sample(0, P, T)),
         ("absolute mode, raw 70000000", absolute, sample(70_000_000, P, T)),
-        ("at minute 479, raw 0", early(stored), sample(0, P, T)),
     ];
     let shown = cases.map(|(label, (state, stored), event)| {
         let ground = grounds::ground(&state, stored, &Entry::Known(event));
@@ -192,7 +169,7 @@ pub fn text() -> String {
         }
     }
     text.push_str("event | its answer | stored after it | a sample at P 101300, T 29815\n");
-    text = text + &settings() + &samples() + &others() + &hours();
+    text = text + &settings() + &samples() + &others();
     text.push_str("a sample where 150000000 is stored at P 101300, T 29815 | ground\n");
     text + &places()
 }

@@ -12,7 +12,7 @@ pub fn sheet() -> SheetRecord {
         a3: 5_000_000,
         t0: 29_815,
         k: 200_000_000,
-        issue: 0,
+        rest: 0,
     }
 }
 
@@ -32,7 +32,7 @@ pub fn table_sheet() -> SheetRecord {
         a3: TABLE_SHEET.a3 as i32,
         t0: TABLE_SHEET.t0 as u32,
         k: TABLE_SHEET.k as u32,
-        issue: 0,
+        rest: 0,
     }
 }
 

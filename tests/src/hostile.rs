@@ -1,6 +1,6 @@
-//! Files that are wrong in one thing: each bit that must be zero, set by itself, sheets with each
-//! bit of their date of issue, and headers whose sums come out right only if they wrap in 32 bits.
-//! Plans likewise, and plans of every length that matters.
+//! Files that are wrong in one thing: each bit that must be zero, set by itself, and headers
+//! whose sums come out right only if they wrap in 32 bits. Plans likewise, and plans of
+//! every length that matters.
 
 use crate::bench;
 use crate::engine::{Event, SheetRecord};
@@ -8,9 +8,9 @@ use crate::file::{EventRecord, Outcome, Records, Session};
 use crate::file::{EVENTS_LIMIT, HEADER_BYTES, RECORD_BYTES, SHEETS_LIMIT};
 use crate::plan::Writer;
 
-/// An event that goes well with the bench sheet, and the offsets of the fields that the papers
-/// give to its kind. Every other byte after the first must be zero.
-pub const KINDS: [(Event, &[usize]); 11] = [
+/// An event that goes well with the bench sheet, and the offsets of the fields that document
+/// 01 gives to its kind. Every other byte after the first must be zero.
+pub const KINDS: [(Event, &[usize]); 10] = [
     (Event::Load { index: 0 }, &[8]),
     (Event::Zero { raw: 1_000 }, &[4]),
     (
@@ -24,7 +24,6 @@ pub const KINDS: [(Event, &[usize]); 11] = [
     (Event::Stop, &[]),
     (Event::Area, &[]),
     (Event::StartShort, &[]),
-    (Event::Clock { date: 20_250_310, minute: 600 }, &[4, 8]),
 ];
 
 /// Whether there is such a kind.
@@ -97,63 +96,20 @@ fn spoilt_events() -> Spoilt {
     Spoilt { file: Session { sheets: vec![bench::sheet()], events }.to_bytes(), owed }
 }
 
-/// Each bit of a record that must be zero, set by itself. A sheet has no such bit.
-pub fn bits_that_must_be_zero() -> Vec<Spoilt> {
-    vec![spoilt_events()]
-}
-
-/// Dates of issue with what is owed to a load of their sheet: undated, the ends of the
-/// calendar and one beside them, the ends of months, and Februaries of every kind of year.
-const ISSUES: [(u32, u8); 32] = [
-    (0, 0),
-    (1, 2),
-    (101, 2),
-    (19_991_231, 2),
-    (20_000_000, 2),
-    (20_000_001, 2),
-    (20_000_100, 2),
-    (20_000_101, 0),
-    (20_000_131, 0),
-    (20_000_132, 2),
-    (20_000_229, 0),
-    (20_000_230, 2),
-    (20_000_431, 2),
-    (20_001_231, 0),
-    (20_001_301, 2),
-    (20_010_228, 0),
-    (20_010_229, 2),
-    (20_040_229, 0),
-    (20_500_229, 2),
-    (20_500_931, 2),
-    (20_960_229, 0),
-    (20_970_229, 2),
-    (20_991_130, 0),
-    (20_991_131, 2),
-    (20_991_230, 0),
-    (20_991_231, 0),
-    (20_991_232, 2),
-    (21_000_101, 2),
-    (21_000_228, 2),
-    (120_000_101, 2),
-    (2_000_010_100, 2),
-    (u32::MAX, 2),
-];
-
-/// Loads of the bench sheet with these dates of issue, and what is owed to each.
-fn issued(issues: &[(u32, u8)]) -> Spoilt {
-    let sheets = issues.iter().map(|(issue, _)| SheetRecord { issue: *issue, ..bench::sheet() });
-    let indices = 0..issues.len() as u32;
+/// Loads of sheets with one bit set among the four bytes that must be zero, some of the 32.
+fn spoilt_sheets(bits: impl Iterator<Item = u32>) -> Spoilt {
+    let sheets = bits.map(|bit| SheetRecord { rest: 1 << bit, ..bench::sheet() });
+    let sheets: Vec<SheetRecord> = sheets.collect();
+    let indices = 0..sheets.len() as u32;
     let events = indices.map(|index| EventRecord::of(&Event::Load { index })).collect();
-    let owed = issues.iter().map(|(_, refusal)| Some(*refusal)).collect();
-    Spoilt { file: Session { sheets: sheets.collect(), events }.to_bytes(), owed }
+    let owed = vec![Some(2); sheets.len()];
+    Spoilt { file: Session { sheets, events }.to_bytes(), owed }
 }
 
-/// Sheets with dates of issue that are ones and that are none: those above, and each bit of the
-/// four bytes set by itself, which is no date.
-pub fn dates_of_issue() -> Vec<Spoilt> {
-    let bits = (0..32).map(|bit| (1 << bit, 2));
-    let all: Vec<(u32, u8)> = ISSUES.into_iter().chain(bits).collect();
-    all.chunks(SHEETS_LIMIT).map(issued).collect()
+/// Each bit of a record that must be zero, set by itself.
+pub fn bits_that_must_be_zero() -> Vec<Spoilt> {
+    let half = SHEETS_LIMIT as u32;
+    vec![spoilt_events(), spoilt_sheets(0..half), spoilt_sheets(half..2 * half)]
 }
 
 /// 24 times this is 0 in 32 bits.
@@ -252,14 +208,14 @@ impl OwedPlan {
     }
 }
 
-/// One event with a bit set that must be zero, and the sound ones that stand beside such in their
-/// file; and one sheet with any date of issue, which is written as given.
+/// One sheet or one event with a bit set that must be zero, and the sound ones that stand beside
+/// such in their file.
 fn plans_of_one_record() -> Vec<OwedPlan> {
     let mut plans = Vec::new();
     let mut push = |records: Records, status: u8| {
         plans.push(OwedPlan { room: records.file_bytes(), records, status });
     };
-    for Spoilt { file, owed } in bits_that_must_be_zero().into_iter().chain(dates_of_issue()) {
+    for Spoilt { file, owed } in bits_that_must_be_zero() {
         let Session { sheets, events } = Session::open(&file).expect("a sound header");
         for (event, owed) in events.into_iter().zip(owed) {
             let one = Session { sheets: Vec::new(), events: vec![event] };
@@ -267,7 +223,7 @@ fn plans_of_one_record() -> Vec<OwedPlan> {
         }
         for sheet in sheets {
             let one = Session { sheets: vec![sheet], events: Vec::new() };
-            push(one.records(), 0);
+            push(one.records(), if sheet.rest == 0 { 0 } else { 11 });
         }
     }
     plans
@@ -339,12 +295,12 @@ mod tests {
     /// An engine that overlooks one bit is seen, and one that says 11 too often.
     #[test]
     fn a_wrong_refusal_is_seen() {
-        for spoilt in bits_that_must_be_zero().into_iter().chain(dates_of_issue()) {
+        for spoilt in bits_that_must_be_zero() {
             let right: Vec<u8> = spoilt.owed.iter().map(|owed| owed.unwrap_or(0)).collect();
             assert!(spoilt.check(&right).is_ok() && spoilt.check(&right[1..]).is_err());
-            for at in [0, right.len() - 1] {
+            for (at, number) in [(0, 1), (right.len() - 1, 0)] {
                 let mut wrong = right.clone();
-                wrong[at] = if right[at] == 0 { 1 } else { 0 };
+                wrong[at] = number;
                 assert!(spoilt.check(&wrong).is_err());
             }
         }

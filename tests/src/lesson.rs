@@ -94,33 +94,6 @@ pub fn over_range() -> Session {
     }
 }
 
-/// A sheet of 14 September 2024 on its last day and the day after, by document 01's bench readings:
-/// a minute before 8:00 and at 8:00, before a span and after one, at 17:00, and on the next day, whose
-/// clock cannot be set back.
-pub fn term_dates() -> Session {
-    let (p, t, e) = (101_300, 29_815, 0);
-    let clock = |date, minute| Event::Clock { date, minute };
-    let sample = |raw| Event::Sample { raw, p, t, e };
-    let events = [
-        Event::Load { index: 0 },
-        clock(20_260_913, 479),
-        sample(40_000_000),
-        clock(20_260_913, 480),
-        sample(40_000_000),
-        Event::Span { raw: 50_000_000, cylinder: 1_000_000_000, p, t, e },
-        sample(50_000_000),
-        clock(20_260_913, 1_020),
-        sample(50_000_000),
-        clock(20_260_914, 480),
-        sample(50_000_000),
-        clock(20_260_913, 480),
-    ];
-    Session {
-        sheets: vec![SheetRecord { issue: 20_240_914, ..bench::sheet() }],
-        events: events.iter().map(EventRecord::of).collect(),
-    }
-}
-
 /// Writes a session file for a program of these tests. It is named as the one argument and not by `>`,
 /// which would empty the old one before the program is even built. The bytes go to a file beside it,
 /// which takes its place once they are all there.

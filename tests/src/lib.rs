@@ -1,11 +1,11 @@
 //! A second implementation of the analyser engine, its rules written from documents 01
 //! and 02 alone, so that two readings of the same paper can be held against each other.
 //!
-//! `rules` is the arithmetic, `calendar` the days of the century, `engine` the eleven events,
-//! `file` the session file and the program, `plan` a session file written in advance, `page` a
-//! page for the lab book, `recorder` a chart recorder's words, `grounds` what a sample is over
-//! range by. `big`, `exact` and `ledger` are the other side of demand 3: equation (11) in exact
-//! fractions and the ledger that walks beside the engine. `random` and `sessions` invent lessons and plans,
+//! `rules` is the arithmetic, `engine` the ten events, `file` the session file and the
+//! program, `plan` a session file written in advance, `page` a page for the lab book,
+//! `recorder` a chart recorder's words, `grounds` what a sample is over range by. `big`,
+//! `exact` and `ledger` are the other side of demand 3: equation (11) in exact fractions and
+//! the ledger that walks beside the engine. `random` and `sessions` invent lessons and plans,
 //! `hostile` spoils one thing at a time, and `harness` compares an engine, a writer, a recorder
 //! or a tool that names grounds with this one over many of them. `roundings` takes a sample's
 //! roundings one by one, `store` keeps what the last search found, and `altered` and
@@ -22,7 +22,6 @@ pub mod altered;
 pub mod archive;
 pub mod bench;
 pub mod big;
-pub mod calendar;
 pub mod charts;
 pub mod drift;
 pub mod engine;

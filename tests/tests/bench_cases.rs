@@ -135,8 +135,12 @@ fn short_starts() {
     let anew = [&[SHORT, Event::Area][..], &readings, &[SHORT], &readings, &[Event::Stop]].concat();
     let events = [&[SHORT, LOAD, REFERENCE][..], &begun, &anew, &[SHORT, Event::Area]].concat();
     let text = printed(&[bench::sheet()], &events);
-    let mut others = without_ordinals(&text);
-    others.retain(|answer| !answer.starts_with("6 0 "));
+    let others: Vec<&str> = text
+        .lines()
+        .filter_map(|line| line.split_once(' '))
+        .map(|(_, answer)| answer)
+        .filter(|answer| !answer.starts_with("6 0 "))
+        .collect();
     let area = "9 0 2 388160000 0";
     let begun = ["10 0 0 0 0", area, "7 0 0 0 0"];
     let anew = ["10 0 0 0 0", "9 10 0 0 0", area, "10 0 0 0 0", area, "8 0 0 0 0"];
@@ -249,60 +253,6 @@ fn noise_around_zero_is_counted() {
     assert_eq!((wet, wet.iter().sum()), ([-45, 30, -15, 60, -30], 0));
     let events = [&[LOAD, Event::Start][..], &noise, &[Event::Area]].concat();
     assert_eq!(last_answer(&sheets, &events), accepted(9, 5, 390, 0));
-}
-
-/// What a session prints without the ordinals.
-fn without_ordinals(text: &str) -> Vec<&str> {
-    text.lines().filter_map(|line| line.split_once(' ')).map(|(_, answer)| answer).collect()
-}
-
-/// The bench sheet of 29 February 2024, under which 40,000,000 is read at 1,000 µmol/mol.
-fn sheet_of_29_february() -> SheetRecord {
-    SheetRecord { issue: 20_240_229, ..bench::sheet() }
-}
-
-const TOLD: &str = "11 0 0 0 0";
-const LOADED: &str = "1 0 0 0 0";
-const READ: &str = "6 0 0 1000000000 1000000000";
-const LATE: &str = "6 20 0 0 0";
-
-/// Document 02's R-11: the sheet's first and last day and one beside them, the ends of the hours, and
-/// clocks that are refused.
-#[test]
-fn hours_and_terms_through_the_program() {
-    let read = sample(40_000_000);
-    let days = [
-        (20_240_228, 600, LATE),
-        (20_240_229, 479, LATE),
-        (20_240_229, 480, READ),
-        (20_260_228, 1_019, READ),
-        (20_260_228, 1_020, LATE),
-        (20_260_301, 480, LATE),
-    ];
-    let told = days.map(|(date, minute, _)| [Event::Clock { date, minute }, read]).concat();
-    let back = [(20_260_301, 479), (20_260_228, 481), (20_260_332, 480), (20_260_302, 1_440)];
-    let back = back.map(|(date, minute)| Event::Clock { date, minute });
-    let text = printed(&[sheet_of_29_february()], &[&[LOAD][..], &told, &back].concat());
-    let expected = days.map(|(.., answer)| [TOLD, answer]).concat();
-    assert_eq!(without_ordinals(&text), [&[LOADED][..], &expected, &["11 19 0 0 0"; 4]].concat());
-}
-
-/// A span before the clock, of today and of yesterday; a load, which clears the clock; and a late sample,
-/// which closes its area.
-#[test]
-fn days_of_spans_through_the_program() {
-    let read = sample(40_000_000);
-    let clock = |date, minute| Event::Clock { date, minute };
-    let set = span(40_000_000);
-    let spans = [LOAD, set, read, clock(20_240_301, 480), read, set, read];
-    let next = [clock(20_240_302, 480), read, REFERENCE, set, LOAD, read];
-    let area = [Event::Start, read, clock(20_240_301, 1_020), read, set, Event::Area];
-    let text = printed(&[sheet_of_29_february()], &[&spans[..], &next, &area].concat());
-    let (set, late) = ("3 0 1000000 0 0", "3 20 0 0 0");
-    let spans = [LOADED, set, READ, TOLD, LATE, set, READ];
-    let next = [TOLD, LATE, "4 0 0 0 0", "3 10 0 0 0", LOADED, READ];
-    let area = ["7 0 0 0 0", READ, TOLD, LATE, late, "9 0 1 0 0"];
-    assert_eq!(without_ordinals(&text), [&spans[..], &next, &area].concat());
 }
 
 /// The cases that no theorem has, in one session.

@@ -70,14 +70,13 @@ fn archive_asks_for_nothing() {
     assert!(said.contains(".o:") && asked.is_empty(), "{said}");
 }
 
-/// Where document 01 has the fields of a record, and R-11 the date of issue.
-const OFFSETS: [(&str, usize); 17] = [
+/// Where document 01 has the fields of a record.
+const OFFSETS: [(&str, usize); 16] = [
     ("IRGA_SHEET_A1", 0),
     ("IRGA_SHEET_A2", 4),
     ("IRGA_SHEET_A3", 8),
     ("IRGA_SHEET_T0", 12),
     ("IRGA_SHEET_K", 16),
-    ("IRGA_SHEET_ISSUED", 20),
     ("IRGA_EVENT_KIND", 0),
     ("IRGA_EVENT_RAW", 4),
     ("IRGA_EVENT_C", 8),
@@ -91,7 +90,7 @@ const OFFSETS: [(&str, usize); 17] = [
     ("IRGA_ANSWER_Y", 16),
 ];
 
-const REFUSALS: [(&str, Refusal); 20] = [
+const REFUSALS: [(&str, Refusal); 18] = [
     ("IRGA_NO_SHEET", Refusal::NoSheet),
     ("IRGA_SHEET_LIMITS", Refusal::SheetOutsideLimits),
     ("IRGA_ZERO_RANGE", Refusal::ZeroOutsideRange),
@@ -110,8 +109,6 @@ const REFUSALS: [(&str, Refusal); 20] = [
     ("IRGA_HEADER_INTERVAL", Refusal::HeaderInterval),
     ("IRGA_PAGE_TOO_LONG", Refusal::PageTooLong),
     ("IRGA_RECORDER_LIMITS", Refusal::RecorderLimits),
-    ("IRGA_BAD_CLOCK", Refusal::BadClock),
-    ("IRGA_NOT_IN_TERM", Refusal::NotInTerm),
 ];
 
 const GROUNDS: [(&str, Ground); 5] = [
@@ -151,8 +148,8 @@ fn constants() -> Vec<(&'static str, usize)> {
     constants
 }
 
-/// Names of the kinds in document 01's order, then R-10's and R-11's.
-const KINDS: [&str; 11] = [
+/// Names of the kinds in document 01's order, and R-10's.
+const KINDS: [&str; 10] = [
     "LOAD",
     "ZERO",
     "SPAN",
@@ -163,7 +160,6 @@ const KINDS: [&str; 11] = [
     "STOP",
     "AREA",
     "START_SHORT",
-    "CLOCK",
 ];
 
 /// An array of −1 elements does not compile: one for each constant that is another.
@@ -468,7 +464,7 @@ fn readings_of_sessions_with_refusals() {
     }
     assert!(below_zero >= 100, "{below_zero} readings below zero");
     let met: BTreeSet<(i64, u8)> = meanings.keys().copied().collect();
-    let numbers = (1..=11).chain([19, 20]).filter(|number| *number != 8).map(|number| (number, 0));
+    let numbers = (1..=11).filter(|number| *number != 8).map(|number| (number, 0));
     assert_eq!(met, numbers.chain((1..=4).map(|ground| (8, ground))).collect());
     let texts: BTreeSet<&String> = meanings.values().collect();
     assert_eq!(texts.len(), met.len(), "{texts:?}");

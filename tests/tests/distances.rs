@@ -35,13 +35,13 @@ fn print(met: &Distances) {
 /// Sessions must reach every refusal and have many accepted events of every kind,
 /// or agreement over them would say little.
 fn assert_wide(count: &Count) {
-    for number in (1..=11).chain([19, 20]) {
+    for number in 1..=11 {
         assert!(count.refused_with(number) > 0, "no event was refused with {number}");
     }
     for status in [0, 12, 13] {
         assert!(count.statuses[status] > 0, "no run ended with status {status}");
     }
-    for kind in 1..=11 {
+    for kind in 1..=10 {
         let accepted = count.answers[kind][0];
         assert!(10 * accepted > count.sessions, "kind {kind}: {accepted} accepted");
     }
@@ -58,12 +58,11 @@ fn ledger_over_invented_sessions() {
     let seconds = began.elapsed().as_secs_f64();
     let pace = count.sessions as f64 / seconds;
     println!("{} sessions, {} events, {pace:.0} sessions a second", count.sessions, count.events);
-    for kind in 1..=11 {
-        let answers = &count.answers[kind];
-        let (timed, others) = (&answers[19..], &answers[1..12]);
+    for kind in 1..=10 {
         println!(
-            "kind {kind}: accepted {}, then 1 to 11: {others:?}, 19, 20: {timed:?}",
-            answers[0]
+            "kind {kind}: accepted {}, then 1 to 11: {:?}",
+            count.answers[kind][0],
+            &count.answers[kind][1..12]
         );
     }
     println!("accepted samples against a reference: {}", count.samples_against);
@@ -261,7 +260,7 @@ fn the_largest_area() {
     let over = |v: i64| rules::absolute_reading(&sheet, &air, v).is_err();
     let top = rules::first_from(0, rules::SIGNAL_LIMIT, over).expect("an end of the range") - 1;
     let (a1, t0, k) = (sheet.a1 as i32, sheet.t0 as u32, sheet.k as u32);
-    let record = SheetRecord { a1, a2: 0, a3: 0, t0, k, issue: 0 };
+    let record = SheetRecord { a1, a2: 0, a3: 0, t0, k, rest: 0 };
     let (p, t, e) = (air.p as u32, air.t as u32, air.e as u32);
     let [low, high] =
         [rules::LOWEST_SIGNAL, top].map(|raw| Event::Sample { raw: raw as i32, p, t, e });

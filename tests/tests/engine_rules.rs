@@ -3,9 +3,8 @@
 
 use irga_tests::bench;
 use irga_tests::engine::{
-    step, Answer, Clock, Entry, Event, Integration, Mode, SheetRecord, SpanDay, State, Tally,
+    step, Answer, Entry, Event, Integration, Mode, SheetRecord, State, Tally,
 };
-use irga_tests::store;
 
 const LOAD: Event = Event::Load { index: 0 };
 
@@ -17,7 +16,7 @@ fn good(raw: i32) -> Event {
 }
 
 fn walk(state: State, entries: &[Entry]) -> (Vec<Answer>, State) {
-    let bad = SheetRecord { issue: 1, ..bench::sheet() };
+    let bad = SheetRecord { rest: 1, ..bench::sheet() };
     let sheets = [bench::sheet(), bad];
     let mut state = state;
     let mut answers = Vec::new();
@@ -51,7 +50,7 @@ fn span(raw: i32, cylinder: u32, p: u32) -> Event {
 }
 
 #[test]
-fn without_a_sheet_everything_but_a_load_and_a_clock_is_refused_with_1() {
+fn without_a_sheet_everything_but_a_load_is_refused_with_1() {
     let all = [
         Event::Zero { raw: 99_999_999 },
         span(0, 0, 0),
@@ -69,8 +68,6 @@ fn without_a_sheet_everything_but_a_load_and_a_clock_is_refused_with_1() {
     assert_eq!(refusal(&State::fresh(), Event::Load { index: 2 }), 1);
     assert_eq!(refusal(&State::fresh(), Event::Load { index: u32::MAX }), 1);
     assert_eq!(refusal(&State::fresh(), Event::Load { index: 1 }), 2);
-    assert_eq!(refusal(&State::fresh(), TODAY), 0);
-    assert_eq!(refusal(&State::fresh(), clock(0, 0)), 19);
 }
 
 #[test]
@@ -168,9 +165,7 @@ fn refused_events_leave_the_state() {
         Entry::Malformed(5),
         Entry::Malformed(7),
         Entry::Malformed(10),
-        Entry::Known(clock(20_250_310, -1)),
         Entry::Malformed(11),
-        Entry::Malformed(12),
         Entry::Malformed(255),
     ];
     for (start, entry) in STARTS.into_iter().flat_map(|start| others.map(|entry| (start, entry))) {
@@ -321,273 +316,4 @@ fn no_limit_passes_from_one_start_to_the_next() {
         assert_eq!(standing(&read(nearly, 1)), (false, 600_000));
         assert_eq!(standing(&read(nearly, 2)), (false, 600_000));
     }
-}
-
-/// The bench sheet with this date of issue, loaded as the first of two: the other is undated.
-fn dated(issue: u32) -> [SheetRecord; 2] {
-    [SheetRecord { issue, ..bench::sheet() }, bench::sheet()]
-}
-
-fn clock(date: u32, minute: i32) -> Event {
-    Event::Clock { date, minute }
-}
-
-/// Refusals of events from a fresh engine under these sheets, and the state that they leave.
-fn refusals(sheets: &[SheetRecord], events: &[Event]) -> (Vec<u8>, State) {
-    let mut state = State::fresh();
-    let numbers = events.iter().map(|event| {
-        let (answer, next) = step(sheets, &state, &Entry::Known(*event));
-        let Answer { kind, refusal, m, x, y } = answer;
-        assert_eq!(kind, event.kind());
-        assert!(refusal == 0 || (m, x, y) == (0, 0, 0), "{answer:?}");
-        state = next;
-        refusal
-    });
-    (numbers.collect(), state)
-}
-
-/// The refusal of the last of these events; all before it are accepted.
-fn last_refusal(sheets: &[SheetRecord], events: &[Event]) -> u8 {
-    let (mut numbers, _) = refusals(sheets, events);
-    let last = numbers.pop().expect("an event");
-    assert!(numbers.iter().all(|number| *number == 0), "{numbers:?}");
-    last
-}
-
-const SPAN: Event =
-    Event::Span { raw: 40_000_000, cylinder: 1_000_000_000, p: 101_300, t: 29_815, e: 0 };
-
-/// 10 March 2025 at 10 h.
-const TODAY: Event = Event::Clock { date: 20_250_310, minute: 600 };
-
-#[test]
-fn clocks_that_are_none() {
-    let good = [20_000_101, 20_000_229, 20_040_229, 20_250_228, 20_250_430, 20_991_231];
-    let bad = [
-        0,
-        1,
-        19_991_231,
-        20_000_001,
-        20_000_100,
-        20_000_132,
-        20_000_230,
-        20_001_301,
-        20_010_229,
-        20_250_431,
-        20_990_229,
-        21_000_101,
-        120_250_310,
-        u32::MAX,
-    ];
-    let refusal = |date, minute| refusal(&State::fresh(), clock(date, minute));
-    for (dates, number) in [(&good[..], 0), (&bad, 19)] {
-        assert!(dates.iter().all(|date| refusal(*date, 0) == number), "{dates:?}");
-    }
-    for minute in [0, 479, 480, 1_019, 1_020, 1_439] {
-        assert_eq!((refusal(20_250_310, minute), refusal(20_250_229, minute)), (0, 19));
-    }
-    for minute in [-1, 1_440, -480, i32::MIN, i32::MAX] {
-        assert_eq!((refusal(20_250_310, minute), refusal(20_250_229, minute)), (19, 19));
-    }
-}
-
-/// By date and then by minute; the standing one may be told again.
-#[test]
-fn a_clock_does_not_go_back() {
-    let told = |date, minute| last_refusal(&[], &[TODAY, clock(date, minute)]);
-    for (date, minute) in [(20_250_310, 600), (20_250_310, 601), (20_250_311, 0), (20_260_101, 5)] {
-        assert_eq!(told(date, minute), 0, "{date} {minute}");
-    }
-    for (date, minute) in [(20_250_310, 599), (20_250_309, 601), (20_250_309, 600), (20_241_231, 9)]
-    {
-        assert_eq!(told(date, minute), 19, "{date} {minute}");
-    }
-}
-
-/// Kind 11 needs no sheet and leaves all but the clock, which a refused one leaves too.
-#[test]
-fn a_clock_leaves_everything_else() {
-    let bad = [clock(20_250_310, 1_440), clock(20_250_229, 600), clock(20_250_310, 599)];
-    for state in met_by_a_start() {
-        let (answers, told) = walk(state, &[Entry::Known(TODAY)]);
-        assert_eq!(answers, [Answer { kind: 11, refusal: 0, m: 0, x: 0, y: 0 }]);
-        assert_eq!(told, State { clock: Clock::told(20_250_310, 600), ..state });
-        assert_eq!(walk(told, &[Entry::Known(TODAY)]).1, told);
-        for event in bad {
-            let (answers, left) = walk(told, &[Entry::Known(event)]);
-            assert_eq!(answers, [Answer { kind: 11, refusal: 19, m: 0, x: 0, y: 0 }]);
-            assert_eq!(left, told);
-        }
-        assert_eq!(walk(told, &[Entry::Malformed(11)]).1, told);
-    }
-}
-
-/// An accepted load clears clock and day of the span, a refused one leaves them. What was told before a
-/// load is lost with it, and an earlier one may follow.
-#[test]
-fn a_load_clears_the_clock() {
-    let timed = after(&[LOAD, SPAN, TODAY]);
-    assert_eq!(timed.span_day, SpanDay::BeforeClock);
-    assert_eq!(walk(timed, &[Entry::Known(LOAD)]).1, after(&[LOAD]));
-    for index in [1, 2] {
-        assert_eq!(walk(timed, &[Entry::Known(Event::Load { index })]).1, timed);
-    }
-    let late = clock(20_250_310, 1_100);
-    assert_eq!(last_refusal(&dated(0), &[late, LOAD, good(1)]), 0);
-    assert_eq!(last_refusal(&dated(0), &[late, LOAD, TODAY, good(1)]), 0);
-    assert_eq!(last_refusal(&dated(0), &[LOAD, late, good(1)]), 20);
-    assert_eq!(last_refusal(&dated(20_010_101), &[TODAY, LOAD, good(1)]), 0);
-}
-
-/// From 8 h to 17 h, for samples and for spans, whether the sheet is dated or not.
-#[test]
-fn hours_of_samples_and_spans() {
-    for issue in [0, 20_250_310] {
-        for (minute, number) in [(0, 20), (479, 20), (480, 0), (1_019, 0), (1_020, 20), (1_439, 20)]
-        {
-            let told = clock(20_250_310, minute);
-            for event in [good(1), SPAN] {
-                assert_eq!(last_refusal(&dated(issue), &[LOAD, told, event]), number, "{minute}");
-            }
-        }
-    }
-}
-
-/// First and last day of a sheet and one beside them; an undated one always serves.
-#[test]
-fn days_on_which_a_sheet_serves() {
-    let terms = [
-        (20_250_310, 20_250_309, 20_270_309, 20_270_310),
-        (20_250_101, 20_241_231, 20_261_231, 20_270_101),
-        (20_240_229, 20_240_228, 20_260_228, 20_260_301),
-        (20_240_228, 20_240_227, 20_260_227, 20_260_228),
-        (20_230_301, 20_230_228, 20_250_228, 20_250_301),
-        (20_000_229, 20_000_228, 20_020_228, 20_020_301),
-        (20_971_231, 20_971_230, 20_991_230, 20_991_231),
-    ];
-    let at = |issue, date, event| {
-        last_refusal(&dated(issue), &[Event::Load { index: 0 }, clock(date, 480), event])
-    };
-    for (issue, before, last, beyond) in terms {
-        for event in [good(1), SPAN] {
-            let days = [before, issue, last, beyond].map(|date| at(issue, date, event));
-            assert_eq!(days, [20, 0, 0, 20], "{issue}");
-            assert_eq!([before, beyond].map(|date| at(0, date, event)), [0, 0]);
-        }
-    }
-    // 2099 ends first.
-    for issue in [20_980_101, 20_980_102, 20_991_231] {
-        assert_eq!(at(issue, 20_991_231, good(1)), 0, "{issue}");
-    }
-}
-
-/// Once the clock is told, a span that was set since the load has to be today's. None need be set.
-#[test]
-fn a_sample_needs_today_s_span() {
-    let next = clock(20_250_311, 480);
-    let back = Event::Absolute;
-    let against = Event::Reference { cylinder: 5, e: 0 };
-    let unserved = span(-1, 5, 101_300);
-    for (events, number) in [
-        (&[TODAY][..], 0),
-        (&[SPAN], 0),
-        (&[SPAN, TODAY], 20),
-        (&[SPAN, TODAY, next], 20),
-        (&[SPAN, TODAY, SPAN], 0),
-        (&[TODAY, SPAN], 0),
-        (&[TODAY, SPAN, clock(20_250_310, 1_019)], 0),
-        (&[TODAY, SPAN, next], 20),
-        (&[TODAY, SPAN, next, SPAN], 0),
-        (&[TODAY, next], 0),
-        (&[SPAN, TODAY, Event::Zero { raw: 0 }, against, back, Event::Start], 20),
-        (&[SPAN, TODAY, LOAD], 0),
-        (&[SPAN, TODAY, LOAD, TODAY], 0),
-    ] {
-        let events = [&[LOAD], events, &[good(50_000)]].concat();
-        assert_eq!(last_refusal(&dated(0), &events), number, "{events:?}");
-    }
-    // A refused span sets no day, neither where there was none nor where there was one.
-    let (numbers, _) = refusals(&dated(0), &[LOAD, TODAY, unserved, next, good(1)]);
-    assert_eq!(numbers, [0, 0, 5, 0, 0]);
-    let (numbers, _) = refusals(&dated(0), &[LOAD, SPAN, TODAY, unserved, good(1)]);
-    assert_eq!(numbers, [0, 0, 0, 5, 20]);
-}
-
-/// 20 stands behind 11, 1 and 10, and before all others of a sample and a span.
-#[test]
-fn the_clock_s_refusal_in_its_place() {
-    let late = clock(20_250_310, 1_020);
-    let against = Event::Reference { cylinder: 1_000_000_000, e: 0 };
-    let outside = Event::Sample { raw: 150_000_001, p: 0, t: 0, e: 9 };
-    assert_eq!(last_refusal(&[], &[late, outside]), 1);
-    assert_eq!(last_refusal(&[], &[late, SPAN]), 1);
-    for event in [outside, good(-2_000_001), good(100_000_000), good(0)] {
-        assert_eq!(last_refusal(&dated(0), &[LOAD, late, event]), 20);
-        assert_eq!(last_refusal(&dated(0), &[LOAD, against, late, event]), 20);
-    }
-    let narrow = [SheetRecord { k: 10_000_000, ..bench::sheet() }];
-    assert_eq!(last_refusal(&narrow, &[LOAD, against, good(0)]), 9);
-    assert_eq!(last_refusal(&narrow, &[LOAD, against, late, good(0)]), 20);
-    for event in [span(150_000_001, 0, 0), span(1, 0, 101_300), span(-1, 5, 101_300), SPAN] {
-        assert_eq!(last_refusal(&dated(0), &[LOAD, late, event]), 20);
-        assert_eq!(last_refusal(&dated(0), &[LOAD, against, late, event]), 10);
-    }
-    let malformed = walk(after(&[LOAD, late]), &[Entry::Malformed(6), Entry::Malformed(3)]).0;
-    assert!(malformed.iter().all(|answer| answer.refusal == 11));
-}
-
-/// Where neither a sample nor a span is taken every other kind is, and 10 and 3 come as ever.
-#[test]
-fn no_other_kind_looks_at_the_clock() {
-    let against = Event::Reference { cylinder: 5, e: 0 };
-    let events = [
-        (LOAD, 0),
-        (Event::StartShort, 0),
-        (good(1), 0),
-        (clock(20_250_309, 1_020), 0),
-        (Event::Area, 0),
-        (Event::Stop, 0),
-        (Event::Start, 0),
-        (good(1), 20),
-        (Event::Stop, 10),
-        (Event::Area, 10),
-        (Event::StartShort, 0),
-        (Event::Zero { raw: 20_000_001 }, 3),
-        (Event::Zero { raw: 5 }, 0),
-        (against, 0),
-        (Event::Absolute, 0),
-        (SPAN, 20),
-        (Event::Load { index: 2 }, 1),
-        (Event::Load { index: 1 }, 0),
-    ];
-    let (numbers, _) = refusals(&dated(20_250_310), &events.map(|(event, _)| event));
-    assert_eq!(numbers, events.map(|(_, number)| number));
-}
-
-/// A late sample closes its area as any refused one, and stores no finding: neither where none is
-/// stored, nor at another pressure. A clock leaves what is stored.
-#[test]
-fn a_late_sample_closes_and_stores_nothing() {
-    let sheets = dated(0);
-    let late = clock(20_250_310, 1_020);
-    let events = [LOAD, Event::Start, good(1), good(2), late, good(3), Event::Area];
-    let (numbers, state) = refusals(&sheets, &events);
-    assert_eq!(numbers, [0, 0, 0, 0, 0, 20, 0]);
-    assert_eq!(standing(&state), (false, 2));
-    let against = Event::Reference { cylinder: 1_000_000_000, e: 0 };
-    let elsewhere = Event::Sample { raw: 0, p: 99_000, t: 29_815, e: 0 };
-    let stored = |events: &[Event]| {
-        let mut held = (State::fresh(), None);
-        for event in events {
-            let (_, next, kept) =
-                store::step(None, &sheets, (&held.0, held.1), &Entry::Known(*event));
-            held = (next, kept);
-        }
-        held.1
-    };
-    assert_eq!(stored(&[LOAD, against, late, good(0)]), None);
-    let first = stored(&[LOAD, against, good(0)]);
-    assert!(first.is_some());
-    assert_eq!(stored(&[LOAD, against, good(0), late, elsewhere]), first);
-    assert_ne!(stored(&[LOAD, against, good(0), elsewhere]), first);
 }

@@ -449,8 +449,6 @@ fn wrong_events() -> Vec<Wrong> {
         wrong_refusal("a ground at 6", 6, 1),
         wrong_refusal("a ground at 1", 1, 1),
         wrong_refusal("a ground at 11", 11, 1),
-        wrong_refusal("a ground at 20", 20, 2),
-        wrong_byte("the clock left out", |met| met.from(State { clock: None, ..met.state })),
         wrong_byte("the fields of a malformed sample", move |met| {
             let event = met.record.event_of_kind();
             event.map_or(0, |event| as_sample(met, &event))

@@ -1,5 +1,5 @@
 //! The sessions in examples/: the lesson, whose file is what the lesson makes and its text what this
-//! implementation prints of it, the samples that are over range, and a sheet at the end of its term.
+//! implementation prints of it, and the samples that are over range.
 
 use std::fs;
 use std::path::Path;
@@ -9,7 +9,6 @@ use irga_tests::{file, grounds, lesson};
 
 const FILE: &[u8] = include_bytes!("../../examples/lesson.session");
 const OVER: &[u8] = include_bytes!("../../examples/over_range.session");
-const TERM: &[u8] = include_bytes!("../../examples/term_dates.session");
 const TEXT: &str = include_str!("../../examples/lesson.txt");
 
 #[test]
@@ -43,26 +42,12 @@ fn samples_over_range_on_each_ground() {
     assert_eq!(refusals.collect::<Vec<u8>>(), [0, 0, 8, 0, 8, 0, 8, 8, 0]);
 }
 
-/// Two years from 14 September 2024 end with 13 September 2026: too early, in time, too late, a day too
-/// late, and a clock that goes back. Before the span V is raw, 40,000,000, and after it 800,000
-/// millionths of 50,000,000: document 01's 1,000 µmol/mol both times.
-#[test]
-fn a_sheet_at_the_end_of_its_term() {
-    let session = lesson::term_dates();
-    assert_eq!(session.to_bytes(), TERM);
-    let answers = session.answers();
-    let refusals = answers.iter().map(|answer| answer.refusal);
-    assert_eq!(refusals.collect::<Vec<u8>>(), [0, 0, 20, 0, 0, 0, 0, 0, 20, 0, 20, 19]);
-    assert_eq!((answers[4].x, answers[5].m, answers[6].x), (1_000_000_000, 800_000, 1_000_000_000));
-}
-
 /// The commands in README.md name the file, so that it is not emptied before it is made.
 #[test]
 fn the_programs_write_the_file_that_is_named() {
     for (program, name, bytes) in [
         (env!("CARGO_BIN_EXE_lesson"), "lesson", FILE),
         (env!("CARGO_BIN_EXE_over_range"), "over_range", OVER),
-        (env!("CARGO_BIN_EXE_term_dates"), "term_dates", TERM),
     ] {
         let path = Path::new(env!("CARGO_TARGET_TMPDIR")).join(format!("{name}.session"));
         let mut program = Command::new(program);

@@ -122,15 +122,12 @@ fn the_trial_has_two_signs_and_is_proved() {
 }
 
 /// Every place in the crates that divides, with its signs. None of them but `quotient` rounds: they
-/// test e by P / 10, halve the stretch of a search, take numbers, dates, records and digits apart,
+/// test e by P / 10, halve the stretch of a search, take numbers, records and digits apart,
 /// count the header lines of a page, and let the signals of `charts` flicker.
 /// A new one is to be looked at, and put here.
 #[test]
 fn nothing_else_rounds() {
     let places = [
-        ("calendar::leap", 3),
-        ("calendar::next", 4),
-        ("calendar::valid", 4),
         ("charts::raw_of", 1),
         ("curve::limits::air_within", 1),
         ("fields::high_word", 1),
@@ -150,7 +147,7 @@ fn nothing_else_rounds() {
         ("sheets::find_sheet", 1),
         ("text::digits", 1),
         ("text::put_decimal", 2),
-        ("validation::all_known", 1),
+        ("validation::all_right", 1),
         ("validation::is_packed", 2),
     ];
     assert_eq!(Sources::of(&crates()).dividing(), places.into());

@@ -279,13 +279,6 @@ fn wrong_choices() -> Vec<Wrong> {
             samples.iter_mut().for_each(|sample| sample.ordinal -= 1);
             samples
         }),
-        wrong_samples("ordinals without the clocks", LINE, |mut samples, session| {
-            for sample in &mut samples {
-                let before = &session.events[..sample.ordinal];
-                sample.ordinal -= before.iter().filter(|event| event.kind == 11).count();
-            }
-            samples
-        }),
         wrong_samples("refused samples have a line", OUTCOME, |_, session| {
             let all = (1..).zip(session.walk()).filter(|(_, (_, answer))| answer.kind == SAMPLE);
             all.map(|(ordinal, (state, answer))| Sample::read(ordinal, &state, &answer)).collect()

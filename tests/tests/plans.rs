@@ -4,7 +4,6 @@
 use std::ops::Range;
 use std::path::Path;
 
-use irga_tests::calendar::Day;
 use irga_tests::file::{self, Outcome, Records, RECORD_BYTES};
 use irga_tests::harness::Campaign;
 use irga_tests::hostile;
@@ -73,10 +72,9 @@ fn blank(records: &mut [u8], bytes: Range<usize>) {
     records.chunks_exact_mut(RECORD_BYTES).for_each(|record| record[bytes.clone()].fill(0));
 }
 
-/// Makes the fields zero that an event's kind lacks, wherever its kind is known and is of these.
-fn blank_fields(records: &mut Records, of: fn(u8) -> bool) {
-    let events = records.events.chunks_exact_mut(RECORD_BYTES);
-    for event in events.filter(|event| of(event[0])) {
+/// Makes the fields zero that an event's kind lacks, wherever its kind is known.
+fn blank_fields(records: &mut Records) {
+    for event in records.events.chunks_exact_mut(RECORD_BYTES) {
         let Some((_, fields)) = hostile::KINDS.get(usize::from(event[0]).wrapping_sub(1)) else {
             continue;
         };
@@ -86,31 +84,10 @@ fn blank_fields(records: &mut Records, of: fn(u8) -> bool) {
     }
 }
 
-/// Changes every event of a kind in a file that is written.
-fn change_events(records: &Records, out: &mut [u8], kind: u8, change: fn(&mut [u8])) {
-    let events = &mut out[16 + records.sheets.len()..records.file_bytes()];
-    events.chunks_exact_mut(RECORD_BYTES).filter(|event| event[0] == kind).for_each(change);
-}
-
-/// A writer that says 11 of records that are none to it.
-fn turned_away_if(none: bool, records: &Records, out: &mut [u8]) -> Outcome {
-    if none && !too_many(records) {
-        return Outcome { status: 11, written: 0 };
-    }
-    write_records(records, out)
-}
-
-/// A writer that knows every kind but one.
-fn without_kind(records: &Records, out: &mut [u8], kind: u8) -> Outcome {
-    let has = records.events.chunks(RECORD_BYTES).any(|event| event[0] == kind);
-    turned_away_if(has, records, out)
-}
-
-/// A writer that looks at dates of issue, which are written as given.
-fn without_issue(records: &Records, out: &mut [u8], none: fn(u32) -> bool) -> Outcome {
-    let issue = |sheet: &[u8]| u32::from_le_bytes([sheet[20], sheet[21], sheet[22], sheet[23]]);
-    let has = records.sheets.chunks_exact(RECORD_BYTES).any(|sheet| none(issue(sheet)));
-    turned_away_if(has, records, out)
+/// The same for the fields of kind 10 alone.
+fn blank_short_starts(records: &mut Records) {
+    let short = records.events.chunks_exact_mut(RECORD_BYTES).filter(|event| event[0] == 10);
+    short.for_each(|event| event[4..].fill(0));
 }
 
 /// Cuts off what is behind the last whole record.
@@ -123,12 +100,11 @@ fn whole(records: &Records) -> Records {
 type Wrong = (&'static str, &'static str, Writer);
 
 const OWED_11: &str = "expected Outcome { status: 11";
-const GIVEN_11: &str = "was given Outcome { status: 11";
 const OWED_14: &str = "expected Outcome { status: 14";
 const TOUCHED: &str = "after the file was touched";
 
 /// Writers that put other bytes.
-const WRONG_BYTES: [Wrong; 8] = [
+const WRONG_BYTES: [Wrong; 6] = [
     ("the events begin where the sheets do", "byte 12 of the file", |records, out| {
         afterwards(records, out, |_, out| out[12..16].copy_from_slice(&[16, 0, 0, 0]))
     }),
@@ -147,17 +123,9 @@ const WRONG_BYTES: [Wrong; 8] = [
     }),
     ("a short start is written as a start", "expected 10, was given 7", |records, out| {
         afterwards(records, out, |records, out| {
-            change_events(records, out, 10, |event| event[0] = 7)
-        })
-    }),
-    ("a clock's minute is left out", "of the file: expected", |records, out| {
-        afterwards(records, out, |records, out| {
-            change_events(records, out, 11, |event| event[4..8].fill(0))
-        })
-    }),
-    ("a date of issue is left out", "of the file: expected", |records, out| {
-        afterwards(records, out, |records, out| {
-            blank(&mut out[16..16 + records.sheets.len()], 20..24)
+            let events = &mut out[16 + records.sheets.len()..records.file_bytes()];
+            let short = events.chunks_exact_mut(RECORD_BYTES).filter(|event| event[0] == 10);
+            short.for_each(|event| event[0] = 7);
         })
     }),
     ("the rest of the buffer is cleared", TOUCHED, |records, out| {
@@ -173,23 +141,22 @@ const WRONG_BYTES: [Wrong; 8] = [
 ];
 
 /// Writers that give another status, or another length.
-const WRONG_OUTCOMES: [Wrong; 13] = [
+const WRONG_OUTCOMES: [Wrong; 10] = [
     ("a field that the kind lacks is written", OWED_11, |records, out| {
-        written_blindly(records, out, |records| blank_fields(records, |_| true))
+        written_blindly(records, out, blank_fields)
     }),
     ("a field is written that a short start lacks", OWED_11, |records, out| {
-        written_blindly(records, out, |records| blank_fields(records, |kind| kind == 10))
+        written_blindly(records, out, blank_short_starts)
     }),
-    ("a field is written that a clock lacks", OWED_11, |records, out| {
-        written_blindly(records, out, |records| blank_fields(records, |kind| kind == 11))
+    ("kind 10 is unknown", "was given Outcome { status: 11", |records, out| {
+        let short = records.events.chunks(RECORD_BYTES).any(|event| event[0] == 10);
+        if short && !too_many(records) {
+            return Outcome { status: 11, written: 0 };
+        }
+        write_records(records, out)
     }),
-    ("kind 10 is unknown", GIVEN_11, |records, out| without_kind(records, out, 10)),
-    ("kind 11 is unknown", GIVEN_11, |records, out| without_kind(records, out, 11)),
-    ("a sheet must be undated", GIVEN_11, |records, out| {
-        without_issue(records, out, |issue| issue != 0)
-    }),
-    ("a date of issue must be one", GIVEN_11, |records, out| {
-        without_issue(records, out, |issue| issue != 0 && Day::of(issue).is_none())
+    ("a sheet's last bytes are not looked at", OWED_11, |records, out| {
+        written_blindly(records, out, |records| blank(&mut records.sheets, 20..24))
     }),
     ("the bytes behind a kind are not looked at", OWED_11, |records, out| {
         written_blindly(records, out, |records| blank(&mut records.events, 1..4))

@@ -28,7 +28,7 @@ fn number(number: impl ToString) -> String {
 }
 
 /// Kinds of event as the sentence on the lesson calls them.
-const KINDS: [&str; 11] = [
+const KINDS: [&str; 10] = [
     "load",
     "zero",
     "span",
@@ -39,7 +39,6 @@ const KINDS: [&str; 11] = [
     "stop",
     "area",
     "short start",
-    "clock",
 ];
 
 #[test]
@@ -206,25 +205,6 @@ fn the_words_of_the_lesson() {
     assert!(shown.starts_with(&format!("{words}```\n")), "README.md has other words than\n{words}");
 }
 
-/// What the example prints of a sheet at the end of its term.
-#[test]
-fn out_of_its_term() {
-    let words = |refusal| match refusal {
-        19 => "no date or no minute, or earlier than the clock that stands",
-        _ => "out of hours, the sheet does not serve on this date, or its span is not of today",
-    };
-    let lines = (1..).zip(lesson::term_dates().answers()).filter_map(|(ordinal, answer)| {
-        let (wet, dry) = (micro(answer.x), micro(answer.y));
-        match (answer.kind, answer.refusal) {
-            (6, 0) => Some(format!("{ordinal}: wet {wet} umol/mol, dry {dry} umol/mol\n")),
-            (_, 0) => None,
-            (_, refusal) => Some(format!("{ordinal}: refused {refusal}, {}\n", words(refusal))),
-        }
-    });
-    let printed: String = lines.collect();
-    assert!(README.contains(&format!("```\n{printed}```\n")), "{printed}");
-}
-
 /// What the example prints of samples over range, as it is printed, and the four limits.
 #[test]
 fn what_to_turn() {
@@ -336,7 +316,7 @@ fn places_of_an_event_s_fields() {
 
 #[test]
 fn places_of_a_sheet_s_fields() {
-    let none = SheetRecord { a1: 0, a2: 0, a3: 0, t0: 0, k: 0, issue: 0 };
+    let none = SheetRecord { a1: 0, a2: 0, a3: 0, t0: 0, k: 0, rest: 0 };
     let bytes = |sheet: SheetRecord| {
         let file = Session { sheets: vec![sheet], events: Vec::new() }.to_bytes();
         file[file::HEADER_BYTES..].to_vec()
@@ -350,11 +330,6 @@ fn places_of_a_sheet_s_fields() {
     ] {
         assert_place("sheet", name, kind, &bytes(none), &bytes(sheet));
     }
-    // The date of issue stands in the last column, in whatever words.
-    let dated = bytes(SheetRecord { issue: u32::MAX, ..none });
-    assert_eq!(differing(&bytes(none), &dated), [20, 21, 22, 23]);
-    let cells = row("sheet |");
-    assert!(["date", "u32"].iter().all(|word| cells[5].contains(word)), "{cells:?}");
 }
 
 #[test]
@@ -602,22 +577,7 @@ fn near(a: i64, b: i64) -> i64 {
     rules::near(i128::from(a), i128::from(b)) as i64
 }
 
-/// Document 01's order of what an event gets, with 19 behind 11 and 20 straight behind 10 (R-11).
-fn assert_order() {
-    let page = in_one_line(README);
-    let (_, after) = page.split_once("the first in this order is given: ").expect("the order");
-    let (list, after) = after.split_once('.').expect("its end");
-    let order: Vec<u8> = list.split(", ").map(|word| word.parse().expect("a number")).collect();
-    let place = |number: u8| order.iter().position(|other| *other == number);
-    assert!(place(11) < place(19), "{order:?}");
-    assert_eq!(place(20), place(10).map(|place| place + 1), "{order:?}");
-    let others: Vec<u8> =
-        order.iter().copied().filter(|number| ![19, 20].contains(number)).collect();
-    assert_eq!(others, [11, 1, 2, 10, 6, 3, 4, 5, 9, 7, 8]);
-    assert!(after.starts_with(" 12 and 13"));
-}
-
-/// The papers' numbers, and their order.
+/// Document 01's numbers, and its order.
 #[test]
 fn refusals_and_their_order() {
     let [sheets, events] = [file::SHEETS_LIMIT, file::EVENTS_LIMIT].map(number);
@@ -640,13 +600,10 @@ fn refusals_and_their_order() {
         (Refusal::HeaderInterval, "the number of sample lines under a header line is outside"),
         (Refusal::PageTooLong, "the lent buffer is shorter than the page,"),
         (Refusal::RecorderLimits, "of a chart recorder: the value or an end of its scale"),
-        // Their words are free.
-        (Refusal::BadClock, ""),
-        (Refusal::NotInTerm, ""),
     ] {
         assert_says(&format!("| {} | {words}", refusal.number()));
     }
-    assert_order();
+    assert_says("the first in this order is given: 11, 1, 2, 10, 6, 3, 4, 5, 9, 7, 8. 12 and 13");
     assert_says("14, 11 and 15, in this order, what is to be written; 12, 16 and 17, in this order, a page;");
     assert_says("18 a word for a chart recorder:");
 }

@@ -2,11 +2,11 @@
 //! and plans that become files. The expected bytes are laid out by hand from document 01.
 
 use irga_tests::bench;
-use irga_tests::engine::{Entry, Event, SheetRecord};
+use irga_tests::engine::{Entry, Event};
 use irga_tests::file::{self, EventRecord, Outcome, Records, Session};
 use irga_tests::harness::{Executable, Program};
-use irga_tests::hostile::{self, Spoilt};
-use irga_tests::plan::{self, Plan};
+use irga_tests::hostile;
+use irga_tests::plan::{self, Plan, PlannedSheet};
 
 fn word(bytes: &mut Vec<u8>, number: u32) {
     bytes.extend(number.to_le_bytes());
@@ -86,16 +86,11 @@ fn every_header_word_and_the_length_count() {
     assert_eq!(file::program(&longer), "0 0 12 0 0 0\n");
 }
 
-/// Records with one thing wrong: bits that must be zero, and dates of issue.
-fn spoilt_records() -> impl Iterator<Item = Spoilt> {
-    hostile::bits_that_must_be_zero().into_iter().chain(hostile::dates_of_issue())
-}
-
-/// A bit that is set where a kind has no field is refused with 11; where the kind has a field it is
-/// not 11. A load of a sheet whose date of issue is none is refused with 2.
+/// A bit that is set where a kind has no field is refused with 11, and in the last bytes of a
+/// sheet with 2; where the kind has a field it is not 11.
 #[test]
 fn bits_that_must_be_zero() {
-    for spoilt in spoilt_records() {
+    for spoilt in hostile::bits_that_must_be_zero() {
         let mut output = vec![0; 24 * spoilt.owed.len()];
         assert_eq!(file::run(&spoilt.file, &mut output).status, 0);
         assert_eq!(spoilt.check_answers(&output), Ok(()));
@@ -105,7 +100,7 @@ fn bits_that_must_be_zero() {
 
 #[test]
 fn bits_that_must_be_zero_in_the_program_under_test() {
-    for spoilt in spoilt_records() {
+    for spoilt in hostile::bits_that_must_be_zero() {
         let printed = Executable::under_test().print(&spoilt.file).expect("the program runs");
         assert_eq!(spoilt.check_lines(&String::from_utf8_lossy(&printed)), Ok(()));
         assert_eq!(printed, file::program(&spoilt.file).as_bytes());
@@ -183,7 +178,7 @@ fn short_by_hand() -> Vec<u8> {
     bytes
 }
 
-/// Kind 10 as bytes, as an event and as answers.
+/// Kind 10 as bytes, as an event and as answers; kind 11 is still none.
 #[test]
 fn a_short_start_by_bytes() {
     let file = short_by_hand();
@@ -200,6 +195,10 @@ fn a_short_start_by_bytes() {
     let plan = Plan::of(&session).expect("a plan");
     assert_eq!(plan.events[1], Event::StartShort);
     assert_eq!(written(&plan, file.len()), (Outcome { status: 0, written: file.len() }, file));
+    let mut unknown = short_by_hand();
+    unknown[64] = 11;
+    let lines = "1 1 0 0 0 0\n2 11 11 0 0 0\n3 6 0 0 -30 -30\n4 9 10 0 0 0\n";
+    assert_eq!(file::program(&unknown), lines);
 }
 
 /// Kind 10 has no field: with any other byte that is not zero it is refused with 11, begins nothing
@@ -220,94 +219,12 @@ fn a_short_start_with_another_byte() {
     }
 }
 
-/// One bench sheet of 29 February 2024; a load, a clock of its last day at 8 h, a sample of
-/// raw −2, a clock of the next day, and the sample again.
-fn timed_by_hand() -> Vec<u8> {
-    let mut bytes = Vec::new();
-    for number in [1, 16, 5, 40, 150_000_000, 5_000_000, 5_000_000, 29_815, 200_000_000] {
-        word(&mut bytes, number);
-    }
-    // 20240229 is 1 × 2^24 + 52 × 2^16 + 215 × 2^8 + 101.
-    bytes.extend([0x65, 0xD7, 0x34, 0x01]);
-    bytes.extend(&by_hand()[40..64]);
-    for number in [11, 480, 20_260_228, 0, 0, 0] {
-        word(&mut bytes, number);
-    }
-    bytes.extend(&by_hand()[64..]);
-    for number in [11, 480, 20_260_301, 0, 0, 0] {
-        word(&mut bytes, number);
-    }
-    bytes.extend(&by_hand()[64..]);
-    bytes
-}
-
-/// Kind 11 as bytes, as an event and as answers, and a date of issue; kind 12 is none.
-#[test]
-fn a_clock_and_a_date_of_issue_by_bytes() {
-    let file = timed_by_hand();
-    let session = Session::open(&file).expect("a sound file");
-    assert_eq!(session.sheets, [SheetRecord { issue: 20_240_229, ..bench::sheet() }]);
-    let clock = Event::Clock { date: 20_260_228, minute: 480 };
-    assert_eq!(session.events[1].entry(), Entry::Known(clock));
-    assert_eq!(session.to_bytes(), file);
-    let lines = "1 1 0 0 0 0\n2 11 0 0 0 0\n3 6 0 0 -30 -30\n4 11 0 0 0 0\n5 6 20 0 0 0\n";
-    assert_eq!(file::program(&file), lines);
-    let mut output = [0xAA; 120];
-    assert_eq!(file::run(&file, &mut output), Outcome { status: 0, written: 120 });
-    let mut answer = [0; 24];
-    answer[0] = 11;
-    assert_eq!(output[24..48], answer);
-    answer[..2].copy_from_slice(&[6, 20]);
-    assert_eq!(output[96..], answer);
-    let plan = Plan::of(&session).expect("a plan");
-    assert_eq!((plan.events[1], plan.sheets[0].issue), (clock, 20_240_229));
-    assert_eq!(written(&plan, file.len()), (Outcome { status: 0, written: file.len() }, file));
-    let mut unknown = timed_by_hand();
-    unknown[64] = 12;
-    let lines = "1 1 0 0 0 0\n2 12 11 0 0 0\n3 6 0 0 -30 -30\n4 11 0 0 0 0\n5 6 20 0 0 0\n";
-    assert_eq!(file::program(&unknown), lines);
-}
-
-/// Kind 11 has C and raw. With any other byte that is not zero it is refused with 11 and tells nothing,
-/// and no plan makes it; with any C and raw it is a plan's.
-#[test]
-fn a_clock_with_another_byte() {
-    for at in 1..24 {
-        let mut file = timed_by_hand();
-        file[112 + at] ^= 1;
-        let session = Session::open(&file).expect("a sound header");
-        let field = (4..12).contains(&at);
-        assert_eq!(session.events[3].entry() == Entry::Malformed(11), !field, "byte {at}");
-        assert_eq!(Plan::of(&session).is_some(), field, "byte {at}");
-        let records = Records::of_file(&file).expect("a sound header");
-        let outcome = plan::write_records(&records, &mut [0; 200]);
-        let written = if field { file.len() } else { 0 };
-        let status = if field { 0 } else { 11 };
-        assert_eq!(outcome, Outcome { status, written }, "byte {at}");
-        if !field {
-            let lines = file::program(&file);
-            assert!(lines.ends_with("\n4 11 11 0 0 0\n5 6 0 0 -30 -30\n"), "byte {at}: {lines}");
-        }
-    }
-}
-
-/// A session file carries a date of issue as given, whatever it is.
-#[test]
-fn any_date_of_issue_is_written_as_given() {
-    for issue in [0, 1, 20_000_229, 20_010_229, 21_000_101, u32::MAX] {
-        let mut file = by_hand();
-        file[36..40].copy_from_slice(&u32::to_le_bytes(issue));
-        let session = Session::open(&file).expect("a sound header");
-        assert_eq!(session.sheets[0].issue, issue);
-        let plan = Plan::of(&session).expect("a plan");
-        assert_eq!(written(&plan, 88), (Outcome { status: 0, written: 88 }, file));
-    }
-}
-
 /// The plan that `by_hand` is the file of.
 fn planned_by_hand() -> Plan {
     let sample = Event::Sample { raw: -2, p: 101_300, t: 29_815, e: 7 };
-    Plan { sheets: vec![bench::sheet()], events: vec![Event::Load { index: 0 }, sample] }
+    let Plan { sheets, .. } = Plan::of(&Session { sheets: vec![bench::sheet()], events: vec![] })
+        .expect("the bench sheet's last bytes are zero");
+    Plan { sheets, events: vec![Event::Load { index: 0 }, sample] }
 }
 
 /// What both writers make of a plan and of a lent buffer of so many bytes 0xAA.
@@ -351,36 +268,24 @@ fn a_plan_that_is_turned_away() {
     assert_eq!(written(&plan, 65_224).0, Outcome { status: 14, written: 0 });
 }
 
-/// A sheet of K 0, a pressure of 0, an index that no sheet has, dates that are none, the ends of
-/// every width.
+/// A sheet of K 0, a pressure of 0, an index that no sheet has, the ends of every width.
 #[test]
 fn numbers_outside_their_limits_are_written_as_given() {
     let plan = Plan {
-        sheets: vec![SheetRecord {
-            a1: i32::MIN,
-            a2: -1,
-            a3: i32::MAX,
-            t0: u32::MAX,
-            k: 0,
-            issue: 1 << 31,
-        }],
+        sheets: vec![PlannedSheet { a1: i32::MIN, a2: -1, a3: i32::MAX, t0: u32::MAX, k: 0 }],
         events: vec![
             Event::Load { index: u32::MAX },
             Event::Span { raw: i32::MIN, cylinder: u32::MAX, p: 0, t: 0, e: 1 << 31 },
-            Event::Clock { date: u32::MAX, minute: -1 },
         ],
     };
     let mut expected = Vec::new();
-    for number in [1, 16, 3, 40, 1 << 31, u32::MAX, (1 << 31) - 1, u32::MAX, 0, 1 << 31] {
+    for number in [1, 16, 2, 40, 1 << 31, u32::MAX, (1 << 31) - 1, u32::MAX, 0, 0] {
         word(&mut expected, number);
     }
     for number in [1, 0, u32::MAX, 0, 0, 0, 3, 1 << 31, u32::MAX, 0, 0, 1 << 31] {
         word(&mut expected, number);
     }
-    for number in [11, u32::MAX, u32::MAX, 0, 0, 0] {
-        word(&mut expected, number);
-    }
-    assert_eq!(written(&plan, 112), (Outcome { status: 0, written: 112 }, expected.clone()));
+    assert_eq!(written(&plan, 88), (Outcome { status: 0, written: 88 }, expected.clone()));
     assert_eq!(Session::open(&expected).and_then(|session| Plan::of(&session)), Some(plan));
 }
 
@@ -391,12 +296,13 @@ fn plans_that_are_owed_a_status() {
     }
 }
 
-/// A file with an event that is none is nobody's plan.
+/// A file whose sheet has a last byte that is not zero, or with an event that is none, is
+/// nobody's plan.
 #[test]
 fn a_file_that_no_plan_makes() {
     let sound = by_hand();
     assert_eq!(Session::open(&sound).and_then(|file| Plan::of(&file)), Some(planned_by_hand()));
-    for at in [41, 43, 44, 72] {
+    for at in [36, 39, 41, 43, 44, 72] {
         let mut file = sound.clone();
         file[at] = 1;
         assert_eq!(Plan::of(&Session::open(&file).expect("a sound header")), None, "byte {at}");

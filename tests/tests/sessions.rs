@@ -1,9 +1,6 @@
 //! What the invented sessions reach: agreement over them says little about anything that
 //! does not occur in them.
 
-#[path = "sessions/term_dates.rs"]
-mod term_dates;
-
 use std::collections::BTreeMap;
 use std::sync::OnceLock;
 
@@ -31,8 +28,8 @@ fn sound() -> impl Iterator<Item = Session> {
 /// A record's fields by name, and which kinds have them.
 fn fields(record: &EventRecord) -> [(&'static str, &'static [u8], u32); 5] {
     [
-        ("raw", &[2, 3, 6, 11], record.raw as u32),
-        ("C", &[1, 3, 4, 11], record.c),
+        ("raw", &[2, 3, 6], record.raw as u32),
+        ("C", &[1, 3, 4], record.c),
         ("P", &[3, 6], record.p),
         ("T", &[3, 6], record.t),
         ("e", &[3, 4, 6], record.e),
@@ -42,7 +39,7 @@ fn fields(record: &EventRecord) -> [(&'static str, &'static [u8], u32); 5] {
 /// Each kind meets each field that it lacks, not zero and with its highest bit set.
 #[test]
 fn every_field_that_a_kind_lacks_is_spoilt() {
-    let mut spoilt = [[(0, 0); 5]; 12];
+    let mut spoilt = [[(0, 0); 5]; 11];
     for record in sound().flat_map(|session| session.events) {
         let Some(of_kind) = spoilt.get_mut(usize::from(record.kind)) else {
             continue;
@@ -52,7 +49,7 @@ fn every_field_that_a_kind_lacks_is_spoilt() {
             *highest += value >> 31;
         }
     }
-    for kind in 1..=11 {
+    for kind in 1..=10 {
         let counted = spoilt[usize::from(kind)].iter().zip(fields(&EventRecord::default()));
         for ((any, highest), (name, kinds, _)) in counted {
             if !kinds.contains(&kind) {
@@ -65,7 +62,7 @@ fn every_field_that_a_kind_lacks_is_spoilt() {
 /// The bit of the sign turned over where raw is a field.
 #[test]
 fn every_kind_with_a_raw_signal_meets_its_highest_bit() {
-    for kind in [2, 3, 6, 11] {
+    for kind in [2, 3, 6] {
         let records = sound().flat_map(|session| session.events);
         let far = records.filter(|record| record.kind == kind && record.raw < -1_000_000_000);
         assert!(far.count() >= 20, "kind {kind}");

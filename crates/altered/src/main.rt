@@ -4,8 +4,8 @@
 // What `stdout` holds, and where it comes from. First, for two values of K, what `step` answers to a sample at the stored P and T (refusal, R,
 // wet, dry), beside it what the rules give with that R, by the reading alone, and the number of the ground that `ground` names, 0 for none. Then
 // what an event does to a stored 30,000,000 (under K 10,000,000 a stored 3,000,000), which no search finds there: its answer, what stands stored
-// after it, and the answer of a sample at that P and T; clocks, and what is refused out of hours, among them (R-11). Last, grounds at other
-// places, where a search is made, in absolute mode and out of hours. All of it was computed by the independent implementation in tests/, which works from documents 01 and 02 alone, and a test holds the file to it; but for the two
+// after it, and the answer of a sample at that P and T. Last, grounds at other places, where a search is made, and in absolute mode. All of it was
+// computed by the independent implementation in tests/, which works from documents 01 and 02 alone, and a test holds the file to it; but for the two
 // lines of R 150,000,001, a record that the engine does not work with, whose refusal 1 and ground 0 are ours.
 ghost use Rattle.std.specs.Prelude.{◌≡◌, true, ◌≤◌};
 ghost use Rattle.curve.specs.Limits.{SheetOk};
@@ -23,7 +23,6 @@ use reference::Found;
 use rules::{Entry, Event, Loaded, State};
 use sampling::{Cylinder, Measurement, Mode, sample_on};
 use store::Stored;
-use timing::loaded_times;
 
 mod text;
 
@@ -46,7 +45,6 @@ fn main() {
     settings();
     samples();
     others();
-    hours();
     io::write_all(
         STDOUT_FILENO,
         b"a sample where 150000000 is stored at P 101300, T 29815 | ground\n",
@@ -145,11 +143,6 @@ fn places() {
         absolute,
         measured(70000000, 101300, 29815),
     );
-    place(
-        b"at minute 479, raw 0",
-        early(stored),
-        measured(0, 101300, 29815),
-    );
     let beyond = holding(200000000, Found::At(150000001), reference_mode(0));
     place(b"R 150000001, raw 0", beyond, measured(0, 101300, 29815));
 }
@@ -160,7 +153,7 @@ fn place(label: &[u8], st: State, at: Measurement) {
     print_ground(st, at);
 }
 
-// The bench sheet with this K in this mode, undated and with the clock untold, altered to hold this finding at P 101,300 and T 29,815.
+// The bench sheet with this K in this mode, altered to hold this finding at P 101,300 and T 29,815.
 fn holding(k: u64, found: Found, mode: Mode) -> State
     requires { (10000000 ≤ k) × (k ≤ 400000000) × (found_value found ≤ 4000000000) }
 {
@@ -170,7 +163,6 @@ fn holding(k: u64, found: Found, mode: Mode) -> State
         s: 1000000,
         mode,
         stored: stored_there(found),
-        times: loaded_times(0),
         integration: Integration::Idle,
     }
 }
@@ -233,20 +225,6 @@ fn damp_sample(e: u32) -> Event {
     Event::Sample { at }
 }
 
-// R-11: a clock on 14 September 2026.
-fn told(minute: i32) -> Event {
-    Event::Clock {
-        date: 20260914,
-        minute,
-    }
-}
-
-// The record with the clock told before 8:00: a sample is refused with 20, stores nothing and has no ground.
-fn early(st: State) -> State {
-    let stepped = step(&SHEETS, st, Entry::Known(told(479)));
-    stepped.state
-}
-
 // Events other than samples, of which a load, a reference and an absolute empty the store where they are accepted.
 fn settings() {
     let at = measured(50000000, 101300, 29815);
@@ -280,9 +258,6 @@ fn settings() {
     known(b"stop", Event::Stop);
     known(b"area", Event::Area);
     known(b"short start", Event::StartShort);
-    known(b"clock 20260914 540", told(540));
-    known(b"clock 20260914 479", told(479));
-    known(b"clock 20260914 1440", told(1440));
 }
 
 // Samples at the stored P and T, and at others: what is found there stays stored, also where the sample is refused, unless it is with 6.
@@ -348,24 +323,6 @@ fn others() {
     );
     let beyond = holding(200000000, Found::At(150000001), reference_mode(0));
     shows(b"R 150000001, start", beyond, Entry::Known(Event::Start));
-}
-
-// R-11: before 8:00 a sample at another P and a span, which are refused with 20.
-fn hours() {
-    shows(
-        b"at minute 479, P 101299",
-        early(bench_holding()),
-        Entry::Known(sampled(0, 101299, 29815)),
-    );
-    let at = measured(50000000, 101300, 29815);
-    shows(
-        b"at minute 479, absolute mode, span",
-        early(holding(200000000, Found::At(30000000), Mode::Absolute)),
-        Entry::Known(Event::Span {
-            at,
-            cylinder: 1000000000,
-        }),
-    );
 }
 
 fn known(label: &[u8], event: Event) {

@@ -28,7 +28,7 @@ fn main() {
             a3: 5000000,
             t0: 29815,
             k: 200000000,
-            issued: 0,
+            rest: 0,
         },
     );
     tables(&sheets);

@@ -15,7 +15,7 @@ use Rattle.rules.proofs.Workable.{work, Workable}
 use Rattle.events.specs.Events.{rules}
 use Rattle.events.proofs.Inversion.{wet_in}
 use Rattle.engine.specs.Step.{step_of}
-use Rattle.engine.proofs.Cases.{Ruled, refuses, malformed, loads, zeroes, spans, refers, absolute, samples, closes, lapses, starts, stops, totals, tells, ruled}
+use Rattle.engine.proofs.Cases.{Ruled, refuses, malformed, loads, zeroes, spans, refers, absolute, samples, closes, starts, stops, totals, ruled}
 use Rattle.recorder.proofs.Promises.{turned_away}
 use Rattle.claims.specs.Drawn.{EveryWetDrawn}
 
@@ -32,17 +32,15 @@ by_case : {sheets : List ℕ} {st : State} {entry : Entry} {r : Stepped} → Wor
 by_case w (samples x) = wet_in w.loaded x
 by_case w (refuses kind n) = tt
 by_case w malformed = tt
-by_case w (loads e s d) = tt
+by_case w (loads e s) = tt
 by_case w (zeroes n) = tt
 by_case w (spans low high) = tt
 by_case w (refers g) = tt
 by_case w absolute = tt
 by_case w (closes n) = tt
-by_case w (lapses e) = tt
 by_case w (starts s) = tt
 by_case w stops = tt
 by_case w (totals i) = tt
-by_case w (tells e) = tt
 
 small : (sheets : List ℕ) (st : State) (entry : Entry) → WetSmall (step_of sheets st entry).answer
 unfolding step_of

@@ -2,10 +2,10 @@
 use Prim.Native.Nat.{ℕ, ◌+◌, ◌*◌, ◌≤◌}
 use native.Mathlib.Nat.{zero-add}
 use native.Mathlib.Omega.{arith}
-use mathlib.Core.Bool.{true, false, cond}
+use mathlib.Core.Bool.{true, false, ◌&&◌, cond}
 use mathlib.Core.List.{List, [], ◌∷◌, map, flat_map, append-nil}
 use mathlib.Core.Path.{◌≡◌, refl, sym, ap, ◌∙◌}
-use borrow.Author.Tests.{le-leb}
+use borrow.Author.Tests.{eqb-true, le-leb}
 use lib.Dec.{leb}
 use lib.ListN.{length, take, drop, length-map, length-drop}
 use lib.Seq.{take_at, length-take-le}
@@ -27,12 +27,29 @@ use Rattle.format.proofs.Shape.{shape}
 use Rattle.entries.specs.Entries.{entry_of, record_of_event}
 use Rattle.entries.proofs.Inverse.{record_known, known_record}
 use Rattle.session.specs.Transcript.{entries_of}
-use Rattle.contents.specs.Plan.{TypedFits, plan_bytes, plan_status}
+use Rattle.contents.specs.declared.PlannedSheet.{PlannedSheet}
+use Rattle.contents.specs.Plan.{record_of_sheet, PlannedFits, TypedFits, plan_bytes, plan_status}
 use Rattle.contents.proofs.Lookups.{planned_loads}
 use Rattle.contents.proofs.Planned.{Served, sheets_planned, events_planned}
-use Rattle.contents.specs.Contents.{every, sheets_in, known_event, sheets_given, events_given, HoldsPlan, WrittenIsRead, is_known, plain_file, ReadIsWritten}
+use Rattle.contents.specs.Contents.{every, sheets_in, numbers_of, known_event, sheets_given, events_given, is_plain, HoldsPlan, WrittenIsRead, is_known, plain_file, ReadIsWritten}
 
--- ---- sheets
+-- ---- sheets and their records
+
+numbers_back : (ss : List PlannedSheet) → map numbers_of (map record_of_sheet ss) ≡ ss
+numbers_back [] = refl
+numbers_back (s ∷ ss) = ap (λ (rest : List PlannedSheet). s ∷ rest) (numbers_back ss)
+
+all_plain : (ss : List PlannedSheet) → every is_plain (map record_of_sheet ss) ≡ true
+all_plain [] = refl
+all_plain (s ∷ ss) = all_plain ss
+
+pub plain_sheets : (rs : List SheetRecord) → every is_plain rs ≡ true → rs ≡ map record_of_sheet (map numbers_of rs)
+plain_sheets [] h = refl
+plain_sheets (r ∷ rs) h =
+    let b = both (is_plain r) (every is_plain rs) h in
+    let z = eqb-true _ _ b.0 in
+    let e = plain_sheets rs b.1 in
+    λ i. record { a1 = r.a1; a2 = r.a2; a3 = r.a3; t0 = r.t0; k = r.k; rest = z i } ∷ e i
 
 -- the records in bytes of records
 pub sheets_found : (rs : List SheetRecord) → Each SheetFits rs → {b : List ℕ} → b ≡ flat_map sheet_bytes rs → sheets_in b ≡ rs
@@ -79,21 +96,24 @@ each_of_map f [] none = none
 each_of_map f (a ∷ xs) (more p ps) = more p (each_of_map f xs ps)
 
 -- a file whose records are those of a plan holds it
-pub holds : {file : List ℕ} {ss : List SheetRecord} {es : List Event} → well_formed file ≡ true → sheets_given file ≡ ss → entries_of file ≡ map Known es
-    → HoldsPlan file ss es
-holds {file} w s e = record { formed = w; sheets = s; loads = λ index. rw (← s) (planned_loads (sheets_of file) index); events = e }
+pub holds : {file : List ℕ} {ss : List PlannedSheet} {es : List Event} → well_formed file ≡ true → sheets_in (sheets_of file) ≡ map record_of_sheet ss
+    → entries_of file ≡ map Known es → HoldsPlan file ss es
+holds {file} {ss} w s e =
+    record { formed = w; sheets = rw s (numbers_back ss); plain = rw s (all_plain ss); loads = planned_loads (sheets_of file) ss s; events = e }
 
 -- ---- written, then read
 
 pub written_is_read : WrittenIsRead
 unfolding plan_bytes
 written_is_read ss es few short fs fe =
-    let r = reads_back ss (map record_of_event es) few (rw (length-map es record_of_event) short) fs (each_map record_of_event fe) in
-    holds r.formed (sheets_found ss fs r.bytes) (rw r.events (all_known es))
+    let ls = length-map ss record_of_sheet in
+    let le = length-map es record_of_event in
+    let r = reads_back (map record_of_sheet ss) (map record_of_event es) (rw ls few) (rw le short) (each_map record_of_sheet fs) (each_map record_of_event fe) in
+    holds r.formed (sheets_found (map record_of_sheet ss) (each_map record_of_sheet fs) r.bytes) (rw r.events (all_known es))
 
 -- so does the start of a buffer in which it stands
-pub held : (sheets : List SheetRecord) (n : ℕ) (events : List Event) (m : ℕ) → n ≤ length sheets → m ≤ length events → {room : ℕ} → Served n m room
-    → Each SheetFits (take n sheets) → Each TypedFits (take m events)
+pub held : (sheets : List PlannedSheet) (n : ℕ) (events : List Event) (m : ℕ) → n ≤ length sheets → m ≤ length events → {room : ℕ} → Served n m room
+    → Each PlannedFits (take n sheets) → Each TypedFits (take m events)
     → {old out : List ℕ} {past : ℕ} → Puts old 0 (plan_bytes (take n sheets) (take m events)) out past → HoldsPlan (take past out) (take n sheets) (take m events)
 held sheets n events m hn hm s fs fe {old} p =
     let file = plan_bytes (take n sheets) (take m events) in
@@ -107,10 +127,14 @@ held sheets n events m hn hm s fs fe {old} p =
 -- what the test of a plain file tells
 pub record Plain (file : List ℕ) : Type 0 where
   pub formed : well_formed file ≡ true
+  pub sheets : every is_plain (sheets_in (sheets_of file)) ≡ true
   pub events : every is_known (entries_of file) ≡ true
 
 pub plain : (file : List ℕ) → plain_file file ≡ true → Plain file
-plain file h = let b = both (well_formed file) (every is_known (entries_of file)) h in record { formed = b.0; events = b.1 }
+plain file h =
+    let k = both (well_formed file && every is_plain (sheets_in (sheets_of file))) (every is_known (entries_of file)) h in
+    let p = both (well_formed file) (every is_plain (sheets_in (sheets_of file))) k.0 in
+    record { formed = p.0; sheets = p.1; events = k.1 }
 
 module _ (file : List ℕ) (w : well_formed file ≡ true) where
   -- the bytes that a run hands to the engine, and the records in them, which are those of the file
@@ -124,7 +148,7 @@ module _ (file : List ℕ) (w : well_formed file ≡ true) where
 
   -- as many as the header says
   pub sheets_given_lem : length (sheets_given file) ≡ sheet_count file
-  sheets_given_lem = ap length sheets_of_lem ∙ length_records sheet_of file 16 (sheet_count file)
+  sheets_given_lem = length-map (sheets_in (sheets_of file)) numbers_of ∙ ap length sheets_of_lem ∙ length_records sheet_of file 16 (sheet_count file)
 
   pub events_given_lem : length (events_given file) ≡ event_count file
   events_given_lem = length-map (entries_of file) known_event ∙ length-map (events_of file) entry_of ∙ length_records event_of file _ (event_count file)
@@ -141,11 +165,12 @@ read_is_written file are h =
     let w = p.formed in
     let m = made_again file are w in
     let found = sheets_of_lem file w in
+    let a : sheets_in (sheets_of file) ≡ map record_of_sheet (sheets_given file) = plain_sheets (sheets_in (sheets_of file)) p.sheets in
     let e : events_of file ≡ map record_of_event (events_given file) = records_known (events_of file) p.events in
     record {
-      holds = holds w refl (known_entries (entries_of file) p.events);
-      sheets_fit = rw found m.sheets_fit;
+      holds = holds w a (known_entries (entries_of file) p.events);
+      sheets_fit = each_of_map {P = SheetFits} record_of_sheet (sheets_given file) (rw (← a, found) m.sheets_fit);
       events_fit = each_of_map {P = EventFits} record_of_event (events_given file) (rw (← e) m.events_fit);
       status = λ room fits. rw (sheets_given_lem file w, events_given_lem file w, plan_status_lem file w room, le-leb (length file) room fits);
-      made = m.is ∙ rw (← e, found);
+      made = m.is ∙ rw (← a, ← e, found);
     }

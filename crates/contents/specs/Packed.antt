@@ -7,18 +7,19 @@ use Rattle.rules.specs.declared.Event.{Event}
 use Rattle.format.specs.Header.{records_from}
 use Rattle.format.specs.File.{file_bytes}
 use Rattle.entries.specs.Entries.{entry_of}
-use Rattle.contents.specs.Contents.{every, sheets_in, known_event, is_known}
+use Rattle.contents.specs.Contents.{every, sheets_in, known_event, is_plain, is_known}
 
--- the event records in bytes, and the events that they say; `sheets_in` has the sheets
+-- the event records in bytes, and the events that they say; `sheets_in` and `planned_in` have the sheets
 abbrev pub events_in : List ℕ → List EventRecord
 events_in bytes = records_from event_of bytes 0 (length bytes / 24)
 
 abbrev pub typed_in : List ℕ → List Event
 typed_in events = map known_event (map entry_of (events_in events))
 
--- whole records, events of known kinds only, and zero bytes wherever they must be; any 24 bytes are a sheet
+-- whole records, events of known kinds only, and zero bytes wherever they must be
 unfoldable pub packed : List ℕ → List ℕ → Bool
-packed sheets events = eqb (length sheets % 24) 0 && eqb (length events % 24) 0 && every is_known (map entry_of (events_in events))
+packed sheets events =
+    eqb (length sheets % 24) 0 && eqb (length events % 24) 0 && every is_plain (sheets_in sheets) && every is_known (map entry_of (events_in events))
 
 -- the session file of these records
 unfoldable pub packed_bytes : List ℕ → List ℕ → List ℕ

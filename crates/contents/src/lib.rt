@@ -1,2 +1,12 @@
-// What a lesson plan holds. The crate has no function and no type: its definitions say what the session file of a plan is and what a run has
-// of it, and its theorems that writing and reading are inverse.
+// What a lesson plan holds. The crate has no function: its definitions say what the session file of a plan is and what a run has of it, and
+// its theorems that writing and reading are inverse.
+
+// A sheet's numbers as the file has them, whether or not a sheet may be so.
+#[derive(Drop)]
+pub struct PlannedSheet {
+    pub a1: i32,
+    pub a2: i32,
+    pub a3: i32,
+    pub t0: u32,
+    pub k: u32,
+}

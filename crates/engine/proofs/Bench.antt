@@ -25,7 +25,6 @@ use Rattle.sampling.specs.Sample.{sampled_on}
 use Rattle.store.specs.declared.Stored.{Stored}
 use Rattle.store.specs.Store.{stored_on}
 use Rattle.sampling.specs.Span.{setting_of, spanned_on}
-use Rattle.timing.specs.Needs.{span_needs_met, sample_needs_met}
 use Rattle.rules.specs.Rules.{answered, span_by}
 use Rattle.events.specs.Sample.{sampled_of}
 use Rattle.events.specs.Events.{with_integration, sample_read, area_answer, rules}
@@ -47,19 +46,19 @@ there = found_there (Found.At 40000000)
 -- a sample stores what the crate below says was found, unless it is stored already; then it is read with it, and counted
 module _ (i : Integration) where
   low_first : rules [] (counting Stored.Empty i) (sample (pos 0)) ≡ answered (Answer.Reading 40000000 (pos 1000000000) (pos 1000000000)) (counting there (counted_of i (pos 1000000000)))
-  unfolding span_needs_met sample_needs_met stored_on sampled_of sampled_on air_within absolute_of signal_of against_of nearest reduced_of slope2_of slope1_of cubic_of moist_of warm_of wet_of dry_of
+  unfolding stored_on sampled_of sampled_on air_within absolute_of signal_of against_of nearest reduced_of slope2_of slope1_of cubic_of moist_of warm_of wet_of dry_of
   low_first = rw starred_references.reference
 
   high_first : rules [] (counting Stored.Empty i) (sample (pos 10000000)) ≡ answered (Answer.Reading 40000000 (pos 1388160000) (pos 1388160000)) (counting there (counted_of i (pos 1388160000)))
-  unfolding span_needs_met sample_needs_met stored_on sampled_of sampled_on air_within absolute_of signal_of against_of nearest reduced_of slope2_of slope1_of cubic_of moist_of warm_of wet_of dry_of
+  unfolding stored_on sampled_of sampled_on air_within absolute_of signal_of against_of nearest reduced_of slope2_of slope1_of cubic_of moist_of warm_of wet_of dry_of
   high_first = rw starred_references.reference
 
   low : rules [] (counting there i) (sample (pos 0)) ≡ answered (Answer.Reading 40000000 (pos 1000000000) (pos 1000000000)) (counting there (counted_of i (pos 1000000000)))
-  unfolding span_needs_met sample_needs_met stored_on sampled_of sampled_on air_within absolute_of signal_of against_of nearest reduced_of slope2_of slope1_of cubic_of moist_of warm_of wet_of dry_of
+  unfolding stored_on sampled_of sampled_on air_within absolute_of signal_of against_of nearest reduced_of slope2_of slope1_of cubic_of moist_of warm_of wet_of dry_of
   low = refl
 
   high : rules [] (counting there i) (sample (pos 10000000)) ≡ answered (Answer.Reading 40000000 (pos 1388160000) (pos 1388160000)) (counting there (counted_of i (pos 1388160000)))
-  unfolding span_needs_met sample_needs_met stored_on sampled_of sampled_on air_within absolute_of signal_of against_of nearest reduced_of slope2_of slope1_of cubic_of moist_of warm_of wet_of dry_of
+  unfolding stored_on sampled_of sampled_on air_within absolute_of signal_of against_of nearest reduced_of slope2_of slope1_of cubic_of moist_of warm_of wet_of dry_of
   high = refl
 
 -- what is counted after a start and the first reading
@@ -85,7 +84,7 @@ abbrev spanned : Found → Stepped
 spanned f = span_by bench_state (setting_of f)
 
 pub starred_cases : StarredCases
-unfolding span_needs_met sample_needs_met stored_on sampled_of sampled_on spanned_on area_answer tally_area air_within absolute_of signal_of against_of nearest reduced_of slope2_of slope1_of cubic_of straight_of moist_of warm_of wet_of dry_of
+unfolding stored_on sampled_of sampled_on spanned_on area_answer tally_area air_within absolute_of signal_of against_of nearest reduced_of slope2_of slope1_of cubic_of straight_of moist_of warm_of wet_of dry_of
 starred_cases =
     record {
       readings = starred_readings;

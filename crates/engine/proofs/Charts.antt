@@ -26,7 +26,7 @@ use Rattle.rules.specs.Answer.{x_of, accepted}
 use Rattle.rules.specs.Rules.{refused}
 use Rattle.rules.specs.Limits.{workable}
 use Rattle.events.specs.Sample.{storing, sampled_of}
-use Rattle.events.specs.Events.{closing, sample_answer, sample_after, sample_rule, sample_due, timed}
+use Rattle.events.specs.Events.{sample_answer, sample_after, sample_rule}
 use Rattle.engine.specs.Step.{step_of}
 use Rattle.engine.specs.Transcript.{Line, transcript, leaves}
 use Rattle.engine.specs.Laws.{Begins}
@@ -56,32 +56,21 @@ module _ (sheets : List ℕ) where
   abbrev stepped : State → Measurement → Stepped
   stepped st at = step_of sheets st (Entry.Known (Event.Sample at))
 
-  -- one sample, by whether its needs are met (check 20)
-  abbrev after : Bool → State → Measurement → Stepped
-  after t st at = cond t (sample_rule st at) (refused (closing st) 20)
-
+  -- one sample
   counted : (st : State) (at : Measurement) → accepted (stepped st at).answer ≡ true
       → (stepped st at).state.integration ≡ counted_of st.integration (x_of (stepped st at).answer)
   counted st at k =
       let e = by_rules sheets st (Entry.Known (Event.Sample at)) (worked sheets st (Entry.Known (Event.Sample at)) k) in
-      rw e (go (sample_due st.loaded st.times) (rw e at k))
-    where
-      go : (t : Bool) → accepted (after t st at).answer ≡ true → (after t st at).state.integration ≡ counted_of st.integration (x_of (after t st at).answer)
-      go true h = counts st.integration (sampled_of (storing st at) at (finding_in (storing st at).stored)) h
-      go false h = absurd (subst T (sym h) tt)
+      rw e (counts st.integration (sampled_of (storing st at) at (finding_in (storing st at).stored)) (rw e at k))
 
   closed : (st : State) (at : Measurement) {t : Tally} → st.integration ≡ Integration.Closed t → (stepped st at).state.integration ≡ Integration.Closed t
   unfolding step_of
   closed st at {t} e = go (workable st)
     where
-      due : (d : Bool) → (after d st at).state.integration ≡ Integration.Closed t
-      due true =
+      go : (w : Bool) → (cond w (sample_rule st at) (refused st 1)).state.integration ≡ Integration.Closed t
+      go true =
           let x = sampled_of (storing st at) at (finding_in (storing st at).stored) in
           ap (λ (i : Integration). sample_after i x) e ∙ stays t x
-      due false = ap closed_of e
-
-      go : (w : Bool) → (cond w (timed sample_rule st at) (refused st 1)).state.integration ≡ Integration.Closed t
-      go true = due (sample_due st.loaded st.times)
       go false = e
 
   -- some samples, one after the other

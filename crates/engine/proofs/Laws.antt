@@ -2,7 +2,7 @@
 -- its load alone, an accepted load forgets the state before it, and a short start is answered as a start is. Assumes nothing.
 use mathlib.Core.Bool.{Bool, true, false, cond}
 use mathlib.Core.List.{List}
-use mathlib.Core.Path.{◌≡◌, refl, sym, ap, subst, ◌∙◌}
+use mathlib.Core.Path.{◌≡◌, refl, sym, subst, ◌∙◌}
 use Prim.Native.Nat.{ℕ}
 use lib.Dec.{T}
 use Rattle.curve.specs.declared.Sheet.{Sheet}
@@ -19,8 +19,7 @@ use Rattle.rules.specs.declared.Answer.{Answer}
 use Rattle.rules.specs.declared.Stepped.{Stepped}
 use Rattle.rules.specs.Answer.{refusal_of, accepted}
 use Rattle.rules.specs.Rules.{answered, refused, needing_sheet, load_by}
-use Rattle.sampling.specs.declared.Measurement.{Measurement}
-use Rattle.events.specs.Events.{with_integration, closing, sample_rule, sample_due, rules}
+use Rattle.events.specs.Events.{with_integration, rules}
 use Rattle.rules.specs.Limits.{workable}
 use Rattle.engine.specs.Step.{step_of}
 use Rattle.engine.specs.Laws.{load_at, is_load, SeesLookup, LoadForgets, StartsAlike}
@@ -39,14 +38,6 @@ module _ (sheets : List ℕ) (st : State) (entry : Entry) where
       go true k = refl
       go false k = k
 
--- ---- a sample, by whether its needs are met (check 20)
-module _ (sheets : List ℕ) (st : State) (at : Measurement) (w : workable st ≡ true) where
-  pub in_time : sample_due st.loaded st.times ≡ true → step_of sheets st (Entry.Known (Event.Sample at)) ≡ sample_rule st at
-  in_time e = by_rules sheets st (Entry.Known (Event.Sample at)) w ∙ ap (λ (t : Bool). cond t (sample_rule st at) (refused (closing st) 20)) e
-
-  pub out_of_time : sample_due st.loaded st.times ≡ false → step_of sheets st (Entry.Known (Event.Sample at)) ≡ refused (closing st) 20
-  out_of_time e = by_rules sheets st (Entry.Known (Event.Sample at)) w ∙ ap (λ (t : Bool). cond t (sample_rule st at) (refused (closing st) 20)) e
-
 -- ---- what a step sees of the sheets
 module _ (a b : List ℕ) (st : State) where
   by_lookup : (i j : ℕ) → lookup_of a i ≡ lookup_of b j → step_of a st (load_at i) ≡ step_of b st (load_at j)
@@ -64,7 +55,6 @@ module _ (a b : List ℕ) (st : State) where
   rules_same (Entry.Known Event.Stop) e = refl
   rules_same (Entry.Known Event.Area) e = refl
   rules_same (Entry.Known Event.StartShort) e = refl
-  rules_same (Entry.Known (Event.Clock date minute)) e = refl
   rules_same (Entry.Malformed kind) e = refl
 
   no_load : (entry : Entry) → is_load entry ≡ false → step_of a st entry ≡ step_of b st entry
@@ -77,11 +67,11 @@ module _ (a b : List ℕ) (st : State) where
 -- ---- what a load leaves: found, every state gives the same; refused, none accepts
 module _ (sheets : List ℕ) (index : ℕ) where
   numbered : (st : State) (x : Lookup) → lookup_of sheets index ≡ x → refusal_of (load_by st x).answer ≡ lookup_refusal x
-  numbered st (Lookup.Found s issued) e = refl
+  numbered st (Lookup.Found s) e = refl
   numbered st (Lookup.Refused number) e = rw (lookup_number sheets index number e)
 
   same : (st other : State) (x : Lookup) → lookup_of sheets index ≡ x → accepted (load_by st x).answer ≡ true → load_by other x ≡ load_by st x
-  same st other (Lookup.Found s issued) e k = refl
+  same st other (Lookup.Found s) e k = refl
   same st other (Lookup.Refused number) e k =
       let n = lookup_number sheets index number e in
       absurd (subst T (sym (rw n at k) ∙ n) tt)

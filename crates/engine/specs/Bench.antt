@@ -11,7 +11,6 @@ use Rattle.sampling.specs.declared.Mode.{Mode}
 use Rattle.sampling.specs.declared.Measurement.{Measurement}
 use Rattle.store.specs.declared.Stored.{Stored}
 use Rattle.store.specs.Store.{stored_as}
-use Rattle.timing.specs.Times.{loaded_times, spanned_at}
 use Rattle.rules.specs.declared.Loaded.{Loaded}
 use Rattle.rules.specs.declared.State.{State}
 use Rattle.rules.specs.declared.Event.{Event}
@@ -21,25 +20,25 @@ use Rattle.rules.specs.Answer.{refusal_of}
 use Rattle.rules.specs.Rules.{answered, idle_with}
 use Rattle.events.specs.Events.{with_integration, rules}
 
--- ---- states: Q 0, S 1,000,000 unless said, idle, nothing stored unless said, the sheet undated and the clock untold
+-- ---- states: Q 0, S 1,000,000 unless said, idle, nothing stored unless said
 
 -- the bench sheet, absolute
 abbrev pub bench_state : State
-bench_state = idle_with (Loaded.One bench_sheet) (pos 0) 1000000 Mode.Absolute Stored.Empty (loaded_times 0)
+bench_state = idle_with (Loaded.One bench_sheet) (pos 0) 1000000 Mode.Absolute Stored.Empty
 
--- the same with another span, set while the clock is untold
+-- the same with another span
 abbrev pub span_state : ℕ → State
-span_state s = idle_with (Loaded.One bench_sheet) (pos 0) s Mode.Absolute Stored.Empty (spanned_at (loaded_times 0))
+span_state s = idle_with (Loaded.One bench_sheet) (pos 0) s Mode.Absolute Stored.Empty
 
 -- against the reference 1,000,000,000 with e 0: the bench sheet, and the one with K 10,000,000, with this stored
 abbrev pub reference_mode : Mode
 reference_mode = Mode.Against (record { c = 1000000000; e = 0 })
 
 abbrev pub reference_state : Stored → State
-reference_state x = idle_with (Loaded.One bench_sheet) (pos 0) 1000000 reference_mode x (loaded_times 0)
+reference_state x = idle_with (Loaded.One bench_sheet) (pos 0) 1000000 reference_mode x
 
 abbrev pub small_state : Stored → State
-small_state x = idle_with (Loaded.One small_sheet) (pos 0) 1000000 reference_mode x (loaded_times 0)
+small_state x = idle_with (Loaded.One small_sheet) (pos 0) 1000000 reference_mode x
 
 -- what was found at P 101,300, T 29,815
 abbrev pub found_there : Found → Stored

@@ -26,7 +26,6 @@ is_load (Entry.Known Event.Start) = false
 is_load (Entry.Known Event.Stop) = false
 is_load (Entry.Known Event.Area) = false
 is_load (Entry.Known Event.StartShort) = false
-is_load (Entry.Known (Event.Clock date minute)) = false
 is_load (Entry.Malformed kind) = false
 
 -- of two lists of sheets: a load goes by what it finds alone, at whichever index of whichever list; any other entry, a malformed one of

@@ -7,7 +7,7 @@ ghost use Rattle.engine.specs.Step.{step_of};
 use crate::limits::workable;
 use counting::Chart;
 use events::{area, malformed, sample, start, stop};
-use rules::kinds::{absolute, load, reference, refuse, span, tell_clock, zero};
+use rules::kinds::{absolute, load, reference, refuse, span, zero};
 use rules::{Entry, Event, State, Stepped};
 
 mod limits;
@@ -42,6 +42,5 @@ fn known(sheets: &[u8], st: State, event: Event) -> Stepped
         Event::Stop => stop(st),
         Event::Area => area(st),
         Event::StartShort => start(st, Chart::Short),
-        Event::Clock { date, minute } => tell_clock(st, date, minute),
     }
 }

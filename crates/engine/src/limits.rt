@@ -1,4 +1,4 @@
-// Whether a record is one that a list of events can leave, as far as the arithmetic and the comparison of dates need it.
+// Whether a record is one that a list of events can leave, as far as the arithmetic needs it.
 ghost use Rattle.std.specs.Prelude.{◌≡◌};
 ghost use Rattle.rules.specs.Limits.{loaded_within};
 ghost use Rattle.rules.specs.Limits.{workable as Limits·workable};
@@ -9,7 +9,6 @@ use rounding::signed::magnitude;
 use rules::{Loaded, State};
 use sampling::mode_within;
 use store::stored_within;
-use timing::times_within;
 
 pub(crate) fn workable(st: State) -> bool
     ensures { result ≡ Limits·workable st }
@@ -18,7 +17,6 @@ pub(crate) fn workable(st: State) -> bool
     let mode = st.mode;
     let integration = st.integration;
     let stored = st.stored;
-    let times = st.times;
     if !loaded_within(loaded) {
         return false;
     }
@@ -32,9 +30,6 @@ pub(crate) fn workable(st: State) -> bool
         return false;
     }
     if !integration_within(integration) {
-        return false;
-    }
-    if !times_within(times) {
         return false;
     }
     stored_within(stored)

@@ -10,7 +10,7 @@ use lib.IntN.{ℤ, pos, negsuc, nat_abs}
 use Rattle.curve.proofs.Within.{both}
 use Rattle.layout.specs.declared.EventRecord.{EventRecord}
 use Rattle.rules.specs.declared.Event.{Event}
-use Rattle.rules.specs.declared.Event.TheVariants.{Load, Zero, Span, Reference, Absolute, Sample, Start, Stop, Area, StartShort, Clock}
+use Rattle.rules.specs.declared.Event.TheVariants.{Load, Zero, Span, Reference, Absolute, Sample, Start, Stop, Area, StartShort}
 use Rattle.rules.specs.declared.Entry.{Entry}
 use Rattle.entries.specs.Entries.{no_raw, no_cylinder, no_air, no_fields, measured, known_if, by_kind, entry_of, event_with, record_of_event, EntryInverse}
 
@@ -26,7 +26,6 @@ record_known Start = refl
 record_known Stop = refl
 record_known Area = refl
 record_known StartShort = refl
-record_known (Clock date minute) = refl
 
 never : {P : Type 0} {k : ℕ} {e : Event} → Entry.Malformed k ≡ Entry.Known e → P
 never h = let z : ◌≡◌ {A = ℕ} 0 1 = cc in absurd (omega arith)
@@ -86,8 +85,7 @@ module _ (r : EventRecord) where
         kind 5 (no_fields r) Absolute _ h (bare z) (λ h.
         kind 6 (no_cylinder r) (Sample (measured r)) _ h (λ k p. same z k refl (eqb-true _ _ p) refl refl refl) (λ h.
         kind 7 (no_fields r) Start _ h (bare z) (λ h. kind 8 (no_fields r) Stop _ h (bare z) (λ h. kind 9 (no_fields r) Area _ h (bare z) (λ h.
-        kind 10 (no_fields r) StartShort _ h (bare z) (λ h.
-        kind 11 (no_air r) (Clock r.cylinder r.raw) _ h (λ k p. let a = zero_air p in same z k refl refl a.0 a.1 a.2) never))))))))))
+        kind 10 (no_fields r) StartShort _ h (bare z) never)))))))))
 
 pub known_record : (r : EventRecord) (e : Event) → entry_of r ≡ Entry.Known e → r ≡ record_of_event e
 unfolding entry_of

@@ -1,10 +1,10 @@
--- An event record as an entry: document 01's nine kinds, R-10's kind 10 and R-11's kind 11, with zero where a kind has no field; else it is
--- malformed, which is refusal 11. And the record of an event. Assumes nothing.
+-- An event record as an entry: document 01's nine kinds and R-10's kind 10, with zero where a kind has no field; else it is malformed, which
+-- is refusal 11. And the record of an event. Assumes nothing.
 use Rattle.std.specs.Prelude.{ℕ, ◌≡◌, Bool, ◌&&◌, cond, eqb, ℤ, pos, nat_abs}
 use Rattle.layout.specs.declared.EventRecord.{EventRecord}
 use Rattle.sampling.specs.declared.Measurement.{Measurement}
 use Rattle.rules.specs.declared.Event.{Event}
-use Rattle.rules.specs.declared.Event.TheVariants.{Load, Zero, Span, Reference, Absolute, Sample, Start, Stop, Area, StartShort, Clock}
+use Rattle.rules.specs.declared.Event.TheVariants.{Load, Zero, Span, Reference, Absolute, Sample, Start, Stop, Area, StartShort}
 use Rattle.rules.specs.declared.Entry.{Entry}
 
 -- fields that are zero
@@ -27,7 +27,7 @@ measured r = record { raw = r.raw; p = r.p; t = r.t; e = r.e }
 abbrev pub known_if : Bool → EventRecord → Event → Entry
 known_if zero r event = cond zero (Entry.Known event) (Entry.Malformed r.kind)
 
--- by the kind byte; the index of a load stands in C, and so does a clock's date; its minute stands in raw
+-- by the kind byte; the index of a load stands in C
 abbrev pub by_kind : EventRecord → Entry
 by_kind r =
     cond (eqb r.kind 1) (known_if (no_raw r && no_air r) r (Event.Load r.cylinder))
@@ -40,8 +40,7 @@ by_kind r =
     (cond (eqb r.kind 8) (known_if (no_fields r) r Event.Stop)
     (cond (eqb r.kind 9) (known_if (no_fields r) r Event.Area)
     (cond (eqb r.kind 10) (known_if (no_fields r) r Event.StartShort)
-    (cond (eqb r.kind 11) (known_if (no_air r) r (Event.Clock r.cylinder r.raw))
-    (Entry.Malformed r.kind)))))))))))
+    (Entry.Malformed r.kind))))))))))
 
 -- the three bytes after the kind are zero
 unfoldable pub entry_of : EventRecord → Entry
@@ -63,7 +62,6 @@ record_of_event Start = event_with 7 (pos 0) 0 0 0 0
 record_of_event Stop = event_with 8 (pos 0) 0 0 0 0
 record_of_event Area = event_with 9 (pos 0) 0 0 0 0
 record_of_event StartShort = event_with 10 (pos 0) 0 0 0 0
-record_of_event (Clock date minute) = event_with 11 minute date 0 0 0
 
 -- the two are inverse: an event's record is read as the event, and no other record is
 pub record EntryInverse : Type 0 where

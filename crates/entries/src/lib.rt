@@ -1,4 +1,4 @@
-// Event records as entries: an event of one of the kinds 1 to 11, or a malformed one, which is refusal 11.
+// Event records as entries: an event of one of the kinds 1 to 10, or a malformed one, which is refusal 11.
 ghost use Rattle.std.specs.Prelude.{◌≡◌, ◌&&◌, eqb};
 ghost use Rattle.entries.specs.Entries.{no_raw, no_cylinder, no_air, no_fields, measured as Entries·measured, known_if, by_kind, entry_of};
 
@@ -43,14 +43,6 @@ fn by_kind(r: EventRecord) -> Entry
         8 => known_if(no_fields(r), r, Event::Stop),
         9 => known_if(no_fields(r), r, Event::Area),
         10 => known_if(no_fields(r), r, Event::StartShort),
-        11 => known_if(
-            no_air(r),
-            r,
-            Event::Clock {
-                date: r.cylinder,
-                minute: r.raw,
-            },
-        ),
         _ => Entry::Malformed(kind),
     }
 }

@@ -8,6 +8,7 @@ use borrow.Author.Tests.{ne_eqb}
 use lib.Dec.{T, eqb}
 use Rattle.curve.specs.declared.Sheet.{Sheet}
 use Rattle.curve.specs.Absolute.{absolute_of}
+use Rattle.curve.proofs.Within.{range}
 use Rattle.reference.specs.declared.Found.{Found}
 use Rattle.reference.specs.Search.{found_value, reference_of}
 use Rattle.reference.specs.Signal.{signal_of, against_of}
@@ -27,15 +28,14 @@ use Rattle.rules.specs.Answer.{accepted}
 use Rattle.rules.specs.Rules.{fresh}
 use Rattle.rules.specs.Limits.{workable}
 use Rattle.rules.proofs.Workable.{work_holding}
-use Rattle.rules.proofs.Refusals.{refusal_range}
 use Rattle.events.specs.Sample.{stored_under, with_stored, storing, sampled_of}
-use Rattle.events.specs.Events.{closing, sample_by, sample_read, sample_due}
+use Rattle.events.specs.Events.{sample_by, sample_read}
 use Rattle.events.proofs.Stored.{stored_under_lem, storing_at}
 use Rattle.engine.specs.Step.{step_of}
-use Rattle.engine.proofs.Laws.{by_rules, in_time, out_of_time}
-use Rattle.engine.proofs.Cases.{long, short, Ruled, refuses, malformed, loads, zeroes, spans, refers, samples, closes, lapses, starts, stops, totals, tells, ruled}
+use Rattle.engine.proofs.Laws.{by_rules}
+use Rattle.engine.proofs.Cases.{long, short, closing, Ruled, refuses, malformed, loads, zeroes, spans, refers, samples, closes, starts, stops, totals, ruled}
 use Rattle.ledger.proofs.Demand3.{from_fresh}
-use Rattle.findings.specs.Claim.{sample_of, found_at, stored_after, empties, Searches, SearchesNot, no_sheet, by_20, by_6, stored_there, StoreMoves, StoreHolds, AlteredHolds, ReferenceStored}
+use Rattle.findings.specs.Claim.{sample_of, found_at, stored_after, empties, Searches, SearchesNot, no_sheet, by_6, stored_there, StoreMoves, StoreHolds, AlteredHolds, ReferenceStored}
 use Rattle.findings.proofs.Searching.{same}
 
 pub store_holds : (sheets : List ℕ) (entries : List Entry) → StoreHolds sheets entries
@@ -67,34 +67,32 @@ sampled_after at = record { emptied = λ x y. absurd (never x refl); refused = �
 -- case by case; a refusal's number is never 0
 moved : {sheets : List ℕ} {st : State} {entry : Entry} {r : Stepped} → Ruled sheets st entry r → Leaves st entry r
 moved (refuses {number = number} k n) =
-    let m = refusal_range number n in
+    let m = range 1 11 number n in
     record { emptied = λ x y. absurd (never y (ne_eqb number 0 (omega arith))); refused = λ x y. refl; other = λ x y. refl }
 moved {st = st} (malformed {kind}) = as_before refl (go (eqb kind 6))
   where
     go : (t : Bool) → (cond t (closing st) st).stored ≡ st.stored
     go true = refl
     go false = refl
-moved (loads e s d) = empty_after refl refl refl
+moved (loads e s) = empty_after refl refl refl
 moved (zeroes n) = as_before refl refl
 moved (spans low high) = as_before refl refl
 moved (refers g) = empty_after refl refl refl
 moved Ruled.absolute = empty_after refl refl refl
 moved (samples {at} x) = sampled_after at
 moved (closes {at} n) = sampled_after at
-moved (lapses {at} e) = sampled_after at
 moved (starts long) = as_before refl refl
 moved (starts short) = as_before refl refl
 moved stops = as_before refl refl
 moved (totals i) = as_before refl refl
-moved (tells e) = as_before refl refl
 
 module _ (sheets : List ℕ) (st : State) (w : workable st ≡ true) where
   leaves_it : (entry : Entry) → Leaves st entry (step_of sheets st entry)
   leaves_it entry = rw (by_rules sheets st entry w) (moved (ruled sheets st entry))
 
-  -- a sample whose needs are met leaves what the definition says, whatever its answer; one whose needs are not leaves what is stored
-  by_sample : (at : Measurement) → sample_due st.loaded st.times ≡ true → stored_after sheets st (sample_of at) ≡ (storing st at).stored
-  by_sample at e = ap (λ (r : Stepped). r.state.stored) (in_time sheets st at w e)
+  -- a sample leaves what the definition says, whatever its answer
+  by_sample : (at : Measurement) → stored_after sheets st (sample_of at) ≡ (storing st at).stored
+  by_sample at = ap (λ (r : Stepped). r.state.stored) (by_rules sheets st (sample_of at) w)
 
   under_any : (at : Measurement) → ((s : Sheet) → stored_on s st.mode at st.stored ≡ st.stored) → (storing st at).stored ≡ st.stored
   under_any at h = go st.loaded
@@ -103,19 +101,11 @@ module _ (sheets : List ℕ) (st : State) (w : workable st ≡ true) where
       go Loaded.Nothing = refl
       go (Loaded.One s) = h s
 
-  keeps : (at : Measurement) → SearchesNot st at → sample_due st.loaded st.times ≡ true → (storing st at).stored ≡ st.stored
-  keeps at (no_sheet e) d = ap (λ (l : Loaded). stored_under l st.mode at st.stored) e
-  keeps at (SearchesNot.absolute e) d = under_any at (λ s. left_absolute s at st.stored e)
-  keeps at (by_20 e) d = absurd (never d e)
-  keeps at (by_6 e) d = under_any at (λ s. left_by_6 s at st.stored st.mode e)
-  keeps at (stored_there e) d = storing_at st at e
-
-  sample_leaves : (at : Measurement) → SearchesNot st at → stored_after sheets st (sample_of at) ≡ st.stored
-  sample_leaves at h = go (sample_due st.loaded st.times) refl
-    where
-      go : (t : Bool) → sample_due st.loaded st.times ≡ t → stored_after sheets st (sample_of at) ≡ st.stored
-      go true d = by_sample at d ∙ keeps at h d
-      go false d = ap (λ (r : Stepped). r.state.stored) (out_of_time sheets st at w d)
+  sample_leaves : (at : Measurement) → SearchesNot st at → (storing st at).stored ≡ st.stored
+  sample_leaves at (no_sheet e) = ap (λ (l : Loaded). stored_under l st.mode at st.stored) e
+  sample_leaves at (SearchesNot.absolute e) = under_any at (λ s. left_absolute s at st.stored e)
+  sample_leaves at (by_6 e) = under_any at (λ s. left_by_6 s at st.stored st.mode e)
+  sample_leaves at (stored_there e) = storing_at st at e
 
 -- a sample that searches stores what it finds
 searches_stores : (st : State) (s : Sheet) (gas : Cylinder) (at : Measurement) → Searches st s gas at
@@ -131,18 +121,18 @@ store_moves sheets st w =
       emptied = λ entry. (leaves_it sheets st w entry).emptied;
       refused_leaves = λ entry. (leaves_it sheets st w entry).refused;
       other_leaves = λ entry. (leaves_it sheets st w entry).other;
-      replaced = λ s gas at h. by_sample sheets st w at h.due ∙ searches_stores st s gas at h;
-      sample_leaves = sample_leaves sheets st w;
+      replaced = λ s gas at h. by_sample sheets st w at ∙ searches_stores st s gas at h;
+      sample_leaves = λ at h. by_sample sheets st w at ∙ sample_leaves sheets st w at h;
     }
 
 -- ---- a record that was altered
 module _ (sheets : List ℕ) (st : State) (w : workable st ≡ true) where
   -- at the stored P and T
-  with_finding : sample_due st.loaded st.times ≡ true → (at : Measurement) (f : Found) → found_value f ≤ 150000000
+  with_finding : (at : Measurement) (f : Found) → found_value f ≤ 150000000
       → step_of sheets (with_stored st (found_at at f)) (sample_of at) ≡ sample_by (with_stored st (found_at at f)) (sampled_of st at f)
   unfolding sampled_of
-  with_finding d at f h =
-      in_time sheets (with_stored st (found_at at f)) at (work_holding st (found_at at f) w (as_within at.p at.t f h)) d
+  with_finding at f h =
+      by_rules sheets (with_stored st (found_at at f)) (sample_of at) (work_holding st (found_at at f) w (as_within at.p at.t f h))
       ∙ ap (λ (x : Stored). sample_read (with_stored st x) at) (storing_at (with_stored st (found_at at f)) at (is_at_as at f))
       ∙ ap (λ (g : Found). sample_by (with_stored st (found_at at f)) (sampled_of st at g)) (finding_as at.p at.t f)
 
@@ -161,23 +151,22 @@ module _ (sheets : List ℕ) (st : State) (w : workable st ≡ true) where
   elsewhere : (s : Sheet) (gas : Cylinder) (at : Measurement) (x : Stored) → stored_within x ≡ true → Searches (with_stored st x) s gas at
       → step_of sheets (with_stored st x) (sample_of at) ≡ step_of sheets (with_stored st Stored.Empty) (sample_of at)
   elsewhere s gas at x v h =
-      let none : Searches (with_stored st Stored.Empty) s gas at = record { loaded = h.loaded; mode = h.mode; due = h.due; checked = h.checked; other = refl } in
-      in_time sheets (with_stored st x) at (work_holding st x w v) h.due
+      let none : Searches (with_stored st Stored.Empty) s gas at = record { loaded = h.loaded; mode = h.mode; checked = h.checked; other = refl } in
+      by_rules sheets (with_stored st x) (sample_of at) (work_holding st x w v)
       ∙ ap (λ (y : Stored). sample_read (with_stored st y) at) (searches_stores (with_stored st x) s gas at h)
       ∙ sym (ap (λ (y : Stored). sample_read (with_stored st y) at) (searches_stores (with_stored st Stored.Empty) s gas at none))
-      ∙ sym (in_time sheets (with_stored st Stored.Empty) at (work_holding st Stored.Empty w refl) h.due)
+      ∙ sym (by_rules sheets (with_stored st Stored.Empty) (sample_of at) (work_holding st Stored.Empty w refl))
 
   altered_holds : AlteredHolds sheets st
   altered_holds =
       record {
         with_finding = with_finding;
-        with_signal = λ d s gas l m at c r h.
-            with_finding d at (Found.At r) h ∙ ap (λ (x : Sampled). sample_by (with_stored st (found_at at (Found.At r))) x) (signal_read_lem s gas l m at c r);
-        with_nothing = λ d s gas l m at c.
-            with_finding d at Found.Nothing (omega arith)
+        with_signal = λ s gas l m at c r h.
+            with_finding at (Found.At r) h ∙ ap (λ (x : Sampled). sample_by (with_stored st (found_at at (Found.At r))) x) (signal_read_lem s gas l m at c r);
+        with_nothing = λ s gas l m at c.
+            with_finding at Found.Nothing (omega arith)
             ∙ ap (λ (x : Sampled). sample_by (with_stored st (found_at at Found.Nothing)) x) (nothing_read s gas l m at c);
         elsewhere = elsewhere;
-        out_of_time = λ d at x v. out_of_time sheets (with_stored st x) at (work_holding st x w v) d;
       }
 
 pub reference_stored : (sheets : List ℕ) → ReferenceStored sheets

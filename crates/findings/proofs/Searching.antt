@@ -8,14 +8,13 @@ use lib.Dec.{leb, eqb}
 use lib.IntN.{nat_abs}
 use Rattle.curve.specs.declared.Sheet.{Sheet}
 use Rattle.counting.specs.declared.Integration.{Integration}
+use Rattle.counting.specs.Integration.{closed_of}
 use Rattle.sampling.specs.declared.Mode.{Mode}
 use Rattle.sampling.specs.declared.Measurement.{Measurement}
 use Rattle.sampling.specs.declared.Sampled.{Sampled}
 use Rattle.sampling.specs.Span.{spanned_refusal, spanned_on}
 use Rattle.sheets.specs.Sheets.{lookup_refusal, lookup_of}
 use Rattle.store.specs.declared.Stored.{Stored}
-use Rattle.timing.specs.Clock.{takes_clock}
-use Rattle.timing.specs.Needs.{span_needs_met}
 use Rattle.rules.specs.declared.Loaded.{Loaded}
 use Rattle.rules.specs.declared.State.{State}
 use Rattle.rules.specs.declared.Event.{Event}
@@ -24,7 +23,7 @@ use Rattle.rules.specs.declared.Answer.{Answer}
 use Rattle.rules.specs.declared.Stepped.{Stepped}
 use Rattle.rules.specs.Rules.{answered, refused, needing_sheet, span_in}
 use Rattle.events.specs.Sample.{with_stored, storing, sampled_of, searched_for, StoredIsSearched}
-use Rattle.events.specs.Events.{closing, sample_by, sample_rule, sample_due, stop_in, rules}
+use Rattle.events.specs.Events.{with_integration, sample_by, sample_rule, stop_in, rules}
 use Rattle.events.proofs.Stored.{agrees_in, same_sample}
 use Rattle.engine.specs.Step.{step_of}
 use Rattle.engine.specs.Transcript.{Line, transcript, leaves}
@@ -56,8 +55,7 @@ module _ (sheets : List ℕ) (st : State) where
 
   span_in_lem : (s : Sheet) (at : Measurement) (cylinder : ℕ) (m : Mode) → Beside (span_in m (emptied st) s at cylinder) (span_in m st s at cylinder)
   span_in_lem s at cylinder (Mode.Against gas) = here _
-  span_in_lem s at cylinder Mode.Absolute =
-      either (span_needs_met st.times) (either (eqb (spanned_refusal (spanned_on s st.q at cylinder)) 0) (here _) (here _)) (here _)
+  span_in_lem s at cylinder Mode.Absolute = either (eqb (spanned_refusal (spanned_on s st.q at cylinder)) 0) (here _) (here _)
 
   stop_in_lem : (i : Integration) → Beside (stop_in i (emptied st)) (stop_in i st)
   stop_in_lem Integration.Idle = here _
@@ -65,7 +63,8 @@ module _ (sheets : List ℕ) (st : State) where
   stop_in_lem (Integration.Closed t) = here _
 
   malformed : (t : Bool)
-      → Beside (refused (cond t (closing (emptied st)) (emptied st)) 11) (refused (cond t (closing st) st) 11)
+      → Beside (refused (cond t (with_integration (emptied st) (closed_of st.integration)) (emptied st)) 11)
+      (refused (cond t (with_integration st (closed_of st.integration)) st) 11)
   malformed true = here _
   malformed false = here _
 
@@ -82,12 +81,11 @@ module _ (sheets : List ℕ) (st : State) where
   beside h (Entry.Known (Event.Span at cylinder)) = on_sheet st.loaded (λ s. span_in s at cylinder st.mode)
   beside h (Entry.Known (Event.Reference cylinder e)) = on_sheet st.loaded (λ s. either (leb cylinder 3000000000 && leb e 11500) (here _) (here _))
   beside h (Entry.Known Event.Absolute) = on_sheet st.loaded (λ s. here _)
-  beside h (Entry.Known (Event.Sample at)) = either (sample_due st.loaded st.times) (sample at h) (here _)
+  beside h (Entry.Known (Event.Sample at)) = sample at h
   beside h (Entry.Known Event.Start) = on_sheet st.loaded (λ s. here _)
   beside h (Entry.Known Event.Stop) = on_sheet st.loaded (λ s. stop_in st.integration)
   beside h (Entry.Known Event.Area) = on_sheet st.loaded (λ s. here _)
   beside h (Entry.Known Event.StartShort) = on_sheet st.loaded (λ s. here _)
-  beside h (Entry.Known (Event.Clock date minute)) = either (takes_clock st.times.clock date minute) (here _) (here _)
   beside h (Entry.Malformed kind) = malformed (eqb kind 6)
 
 -- over a list, from a state that some list leaves

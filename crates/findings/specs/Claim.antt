@@ -6,6 +6,7 @@ use Rattle.curve.specs.Absolute.{absolute_of}
 use Rattle.reference.specs.declared.Found.{Found}
 use Rattle.reference.specs.Search.{found_value, reference_of}
 use Rattle.reference.specs.Signal.{signal_of, against_of}
+use Rattle.counting.specs.Integration.{closed_of}
 use Rattle.sampling.specs.declared.Cylinder.{Cylinder}
 use Rattle.sampling.specs.declared.Mode.{Mode}
 use Rattle.sampling.specs.declared.Measurement.{Measurement}
@@ -20,7 +21,7 @@ use Rattle.rules.specs.Answer.{accepted}
 use Rattle.rules.specs.Rules.{refused, fresh}
 use Rattle.rules.specs.Limits.{workable}
 use Rattle.events.specs.Sample.{with_stored, sampled_of, StoredIsSearched}
-use Rattle.events.specs.Events.{closing, sample_by, sample_due}
+use Rattle.events.specs.Events.{with_integration, sample_by}
 use Rattle.engine.specs.Step.{step_of}
 use Rattle.engine.specs.Transcript.{Line, transcript, leaves}
 use Rattle.findings.specs.Searching.{searching_answers, searching_leaves}
@@ -50,15 +51,12 @@ empties (Entry.Known Event.Start) = false
 empties (Entry.Known Event.Stop) = false
 empties (Entry.Known Event.Area) = false
 empties (Entry.Known Event.StartShort) = false
-empties (Entry.Known (Event.Clock date minute)) = false
 empties (Entry.Malformed kind) = false
 
--- a sample, refused or not, that searches and stores: against a reference, its needs of time met (check 20), its inputs passing check 6, with
--- nothing stored or at another P or T
+-- a sample, refused or not, that searches and stores: against a reference, its inputs passing check 6, with nothing stored or at another P or T
 pub record Searches (st : State) (s : Sheet) (gas : Cylinder) (at : Measurement) : Type 0 where
   pub loaded : st.loaded ≡ Loaded.One s
   pub mode : st.mode ≡ Mode.Against gas
-  pub due : sample_due st.loaded st.times ≡ true
   pub checked : checked_on (Mode.Against gas) at ≡ true
   pub other : is_at st.stored at ≡ false
 
@@ -66,7 +64,6 @@ pub record Searches (st : State) (s : Sheet) (gas : Cylinder) (at : Measurement)
 pub data SearchesNot (st : State) (at : Measurement) : Type 0 where
   no_sheet : st.loaded ≡ Loaded.Nothing → SearchesNot st at
   absolute : st.mode ≡ Mode.Absolute → SearchesNot st at
-  by_20 : sample_due st.loaded st.times ≡ false → SearchesNot st at
   by_6 : checked_on st.mode at ≡ false → SearchesNot st at
   stored_there : is_at st.stored at ≡ true → SearchesNot st at
 
@@ -74,7 +71,7 @@ pub data SearchesNot (st : State) (at : Measurement) : Type 0 where
 pub record StoreMoves (sheets : List ℕ) (st : State) : Type 0 where
   -- accepted load, reference and absolute empty it
   pub emptied : (entry : Entry) → empties entry ≡ true → accepted (step_of sheets st entry).answer ≡ true → stored_after sheets st entry ≡ Stored.Empty
-  -- refused they leave it, and every other entry but a sample leaves it: zero, span, both starts, stop, area, clock and a malformed one
+  -- refused they leave it, and every other entry but a sample leaves it: zero, span, both starts, stop, area and a malformed one
   pub refused_leaves : (entry : Entry) → empties entry ≡ true → accepted (step_of sheets st entry).answer ≡ false → stored_after sheets st entry ≡ st.stored
   pub other_leaves : (entry : Entry) → empties entry ≡ false → ((at : Measurement) → entry ≡ sample_of at → ⊥) → stored_after sheets st entry ≡ st.stored
   -- a sample replaces it by what a search finds at its P and T, whatever its answer, or leaves it
@@ -91,29 +88,26 @@ pub record StoreHolds (sheets : List ℕ) (entries : List Entry) : Type 0 where
   -- and so is the state, but for what is stored, where that engine has nothing
   pub states : with_stored (leaves sheets fresh entries) Stored.Empty ≡ searching_leaves sheets fresh entries
 
--- ---- a record altered to hold another finding: st being any that the code works with, as those are that a list leaves, its samples' needs of time
--- met unless said, and f an R from 0 to 150,000,000, at or above K too, or nothing
+-- ---- a record altered to hold another finding: st being any that the code works with, as those are that a list leaves, and f an R from 0 to
+-- 150,000,000, at or above K too, or nothing
 pub record AlteredHolds (sheets : List ℕ) (st : State) : Type 0 where
   -- at the stored P and T a sample gets what the rules give with f, accepted or refused, and what is stored stays
-  pub with_finding : sample_due st.loaded st.times ≡ true → (at : Measurement) (f : Found) → found_value f ≤ 150000000
+  pub with_finding : (at : Measurement) (f : Found) → found_value f ≤ 150000000
       → step_of sheets (with_stored st (found_at at f)) (sample_of at) ≡ sample_by (with_stored st (found_at at f)) (sampled_of st at f)
   -- in document 01's words: against a reference, the inputs passing check 6, the signal R + V − near(V R / K) is read as an absolute one
-  pub with_signal : sample_due st.loaded st.times ≡ true → (s : Sheet) (gas : Cylinder) → st.loaded ≡ Loaded.One s → st.mode ≡ Mode.Against gas
+  pub with_signal : (s : Sheet) (gas : Cylinder) → st.loaded ≡ Loaded.One s → st.mode ≡ Mode.Against gas
       → (at : Measurement) → checked_on (Mode.Against gas) at ≡ true → (r : ℕ) → r ≤ 150000000
       → step_of sheets (with_stored st (found_at at (Found.At r))) (sample_of at)
       ≡ sample_by (with_stored st (found_at at (Found.At r)))
       (values_of r (air_of at) (absolute_of s (against_of (signal_of at.raw st.q st.s) r s.k) (air_of at)))
   -- and where nothing was found the answer is 9
-  pub with_nothing : sample_due st.loaded st.times ≡ true → (s : Sheet) (gas : Cylinder) → st.loaded ≡ Loaded.One s → st.mode ≡ Mode.Against gas
+  pub with_nothing : (s : Sheet) (gas : Cylinder) → st.loaded ≡ Loaded.One s → st.mode ≡ Mode.Against gas
       → (at : Measurement) → checked_on (Mode.Against gas) at ≡ true
       → step_of sheets (with_stored st (found_at at Found.Nothing)) (sample_of at)
-      ≡ refused (closing (with_stored st (found_at at Found.Nothing))) 9
+      ≡ refused (with_integration (with_stored st (found_at at Found.Nothing)) (closed_of st.integration)) 9
   -- at another P or T what was altered is not looked at: answer and state are those of the record with nothing stored
   pub elsewhere : (s : Sheet) (gas : Cylinder) (at : Measurement) (x : Stored) → stored_within x ≡ true → Searches (with_stored st x) s gas at
       → step_of sheets (with_stored st x) (sample_of at) ≡ step_of sheets (with_stored st Stored.Empty) (sample_of at)
-  -- whatever is stored, a sample whose needs of time are not met gets 20, and what is stored stays (R-11)
-  pub out_of_time : sample_due st.loaded st.times ≡ false → (at : Measurement) (x : Stored) → stored_within x ≡ true
-      → step_of sheets (with_stored st x) (sample_of at) ≡ refused (closing (with_stored st x)) 20
 
 -- ---- R-7, for one list of sheets
 pub record ReferenceStored (sheets : List ℕ) : Type 0 where

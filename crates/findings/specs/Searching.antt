@@ -1,5 +1,5 @@
--- The engine without a store, as document 01 has it: each sample against a reference searches, and nothing is stored. Its other rules, check 20 of a
--- sample among them, are those of the engine with one. Assumes nothing.
+-- The engine without a store, as document 01 has it: each sample against a reference searches, and nothing is stored. Its other rules are
+-- those of the engine with one. Assumes nothing.
 use Rattle.std.specs.Prelude.{ℕ, List, [], ◌∷◌}
 use Rattle.sampling.specs.declared.Measurement.{Measurement}
 use Rattle.rules.specs.declared.State.{State}

@@ -5,21 +5,17 @@ use Rattle.curve.specs.Limits.{sheet_within, air_within}
 use Rattle.curve.specs.Curve.{reduced_of, slope2_of, slope1_of, cubic_of, straight_of, moist_of, warm_of, wet_of}
 use Rattle.reference.specs.Signal.{signal_of, against_of}
 use Rattle.store.specs.Store.{stored_on}
-use Rattle.calendar.specs.Dates.{leap_year, month_days, valid_date}
-use Rattle.timing.specs.Needs.{times_within, span_needs_met, sample_needs_met}
 use Rattle.rules.specs.Limits.{workable}
 use Rattle.grounds.specs.Grounds.{first_ground, ground_on, ground_of}
 use Rattle.grounds.specs.Examples.{GroundExamples}
 
 pub ground_examples : GroundExamples
-unfolding ground_of ground_on first_ground workable leap_year month_days valid_date times_within span_needs_met sample_needs_met sheet_within air_within stored_on signal_of against_of nearest reduced_of slope2_of slope1_of cubic_of straight_of moist_of warm_of wet_of
+unfolding ground_of ground_on first_ground workable sheet_within air_within stored_on signal_of against_of nearest reduced_of slope2_of slope1_of cubic_of straight_of moist_of warm_of wet_of
 ground_examples =
     record {
       v_70000000 = refl;
       v_minus_2000001 = refl;
       v_40000000 = refl;
-      minute_480 = refl;
-      minute_479 = refl;
       r_80000000 = refl;
       r_150000000 = refl;
       r_150000000_raw = refl;

@@ -12,23 +12,21 @@ use Rattle.rules.specs.Rules.{refused}
 use Rattle.rules.specs.Limits.{workable}
 use Rattle.events.specs.Events.{rules}
 use Rattle.engine.specs.Step.{step_of}
-use Rattle.engine.proofs.Cases.{Ruled, refuses, malformed, loads, zeroes, spans, refers, absolute, samples, closes, lapses, starts, stops, totals, tells, ruled}
+use Rattle.engine.proofs.Cases.{Ruled, refuses, malformed, loads, zeroes, spans, refers, absolute, samples, closes, starts, stops, totals, ruled}
 
 by_case : {sheets : List ℕ} {st : State} {entry : Entry} {r : Stepped} → eqb (kind_of entry) 6 ≡ false → Ruled sheets st entry r → eqb (refusal_of r.answer) 8 ≡ false
 by_case e (refuses other n) = other.1
 by_case e malformed = refl
-by_case e (loads s w d) = refl
+by_case e (loads s w) = refl
 by_case e (zeroes n) = refl
 by_case e (spans l u) = refl
 by_case e (refers g) = refl
 by_case e absolute = refl
 by_case e (samples x) = refl
 by_case e (closes n) = absurd (subst T e tt)
-by_case e (lapses d) = refl
 by_case e (starts s) = refl
 by_case e stops = refl
 by_case e (totals t) = refl
-by_case e (tells t) = refl
 
 pub not_8 : (sheets : List ℕ) (st : State) (entry : Entry) → eqb (kind_of entry) 6 ≡ false → eqb (refusal_of (step_of sheets st entry).answer) 8 ≡ false
 unfolding step_of

@@ -8,7 +8,7 @@ use Rattle.rules.specs.declared.State.{State}
 use Rattle.rules.specs.declared.Event.{Event}
 use Rattle.rules.specs.declared.Entry.{Entry}
 use Rattle.rules.specs.declared.Entry.TheVariants.{Known, Malformed}
-use Rattle.rules.specs.declared.Event.TheVariants.{Load, Zero, Span, Reference, Absolute, Sample, Start, Stop, Area, StartShort, Clock}
+use Rattle.rules.specs.declared.Event.TheVariants.{Load, Zero, Span, Reference, Absolute, Sample, Start, Stop, Area, StartShort}
 use Rattle.rules.specs.Answer.{refusal_of}
 use Rattle.engine.specs.Step.{step_of}
 use Rattle.grounds.specs.declared.Ground.{Ground}
@@ -28,7 +28,6 @@ exactly sheets st (Known Start) = sym (not_8 sheets st (Known Start) refl)
 exactly sheets st (Known Stop) = sym (not_8 sheets st (Known Stop) refl)
 exactly sheets st (Known Area) = sym (not_8 sheets st (Known Area) refl)
 exactly sheets st (Known StartShort) = sym (not_8 sheets st (Known StartShort) refl)
-exactly sheets st (Known (Clock date minute)) = sym (not_8 sheets st (Known (Clock date minute)) refl)
 exactly sheets st (Malformed kind) = sym (malformed_11 sheets st kind)
 
 pub every_ground : EveryGround

@@ -27,17 +27,16 @@ use Rattle.rules.specs.declared.State.{State}
 use Rattle.rules.specs.declared.Event.{Event}
 use Rattle.rules.specs.declared.Entry.{Entry}
 use Rattle.rules.specs.declared.Answer.{Answer}
-use Rattle.rules.specs.declared.Stepped.{Stepped}
 use Rattle.rules.specs.Answer.{refusal_of}
 use Rattle.rules.specs.Rules.{refused}
 use Rattle.rules.specs.Limits.{loaded_within, workable}
 use Rattle.rules.proofs.Workable.{work}
 use Rattle.events.specs.Sample.{storing, sampled_under, sampled_of}
-use Rattle.events.specs.Events.{closing, sample_answer, sample_rule, sample_due, timed}
+use Rattle.events.specs.Events.{sample_answer, sample_rule}
 use Rattle.events.proofs.Stored.{storing_within}
 use Rattle.engine.specs.Step.{step_of}
 use Rattle.grounds.specs.declared.Ground.{Ground}
-use Rattle.grounds.specs.Grounds.{first_ground, ground_at, signal_on, ground_on, ground_under, finding_for, ground_in_time, ground_of}
+use Rattle.grounds.specs.Grounds.{first_ground, ground_at, signal_on, ground_on, ground_under, finding_for, ground_of}
 use Rattle.grounds.specs.Promises.{is_named, Passed, signal_at}
 use Rattle.grounds.proofs.Signals.{named_at, passed_at, not_low}
 
@@ -127,23 +126,14 @@ module _ (st : State) (at : Measurement) where
       go Loaded.Nothing = refl
       go (Loaded.One s) = named_on s st.q st.s at st.mode (finding_for st at)
 
-  -- what the engine makes of the sample, by whether its needs are met (check 20)
-  abbrev after : Bool → Stepped
-  after d = cond d (sample_rule st at) (refused (closing st) 20)
-
-  named_in_time : (d : Bool) → is_named (ground_in_time d st at) ≡ eqb (refusal_of (after d).answer) 8
-  unfolding sampled_of
-  named_in_time true = rw (answer_refusal given) named_under
-  named_in_time false = refl
-
   pub named_sample : (sheets : List ℕ) → is_named (ground_of st at) ≡ eqb (refusal_of (step_of sheets st (sampled at)).answer) 8
-  unfolding ground_of step_of
+  unfolding ground_of step_of sampled_of
   named_sample sheets = go (workable st)
     where
       go : (w : Bool)
-          → is_named (cond w (ground_in_time (sample_due st.loaded st.times) st at) Ground.Nothing)
-          ≡ eqb (refusal_of (cond w (timed sample_rule st at) (refused st 1)).answer) 8
-      go true = named_in_time (sample_due st.loaded st.times)
+          → is_named (cond w (ground_under st.loaded st.q st.s st.mode at (finding_for st at)) Ground.Nothing)
+          ≡ eqb (refusal_of (cond w (sample_rule st at) (refused st 1)).answer) 8
+      go true = rw (answer_refusal given) named_under
       go false = refl
 
   passed_under : {l : Loaded} {s : Sheet} (f : Found) → l ≡ Loaded.One s
@@ -152,12 +142,12 @@ module _ (st : State) (at : Measurement) where
 
   pub passed_sample : (s : Sheet) → st.loaded ≡ Loaded.One s → Passed s (signal_at s st at) (air_of at) (ground_of st at)
   unfolding ground_of
-  passed_sample s e = go (workable st) (sample_due st.loaded st.times)
+  passed_sample s e = go (workable st)
     where
-      go : (w d : Bool) → Passed s (signal_at s st at) (air_of at) (cond w (ground_in_time d st at) Ground.Nothing)
-      go true true = passed_under (finding_for st at) e
-      go true false = tt
-      go false d = tt
+      go : (w : Bool)
+          → Passed s (signal_at s st at) (air_of at) (cond w (ground_under st.loaded st.q st.s st.mode at (finding_for st at)) Ground.Nothing)
+      go true = passed_under (finding_for st at) e
+      go false = tt
 
 -- ---- a sample that a step answered with 8
 refused_8 : (x : Sampled) → eqb (refusal_of (sample_answer x)) 8 ≡ true → x ≡ Sampled.Refused 8
@@ -180,11 +170,11 @@ pub record Over (st : State) (at : Measurement) (after : State) : Type 0 where
 pub over : (sheets : List ℕ) (st : State) (at : Measurement) → eqb (refusal_of (step_of sheets st (sampled at)).answer) 8 ≡ true
     → Over st at (step_of sheets st (sampled at)).state
 unfolding ground_of step_of sampled_of
-over sheets st at = go (workable st) (sample_due st.loaded st.times) refl refl
+over sheets st at = go (workable st) refl
   where
-    go : (w d : Bool) → workable st ≡ w → sample_due st.loaded st.times ≡ d → eqb (refusal_of (cond w (after st at d) (refused st 1)).answer) 8 ≡ true
-        → Over st at (cond w (after st at d) (refused st 1)).state
-    go true true e u h =
+    go : (w : Bool) → workable st ≡ w → eqb (refusal_of (cond w (sample_rule st at) (refused st 1)).answer) 8 ≡ true
+        → Over st at (cond w (sample_rule st at) (refused st 1)).state
+    go true e h =
         let o = work st e in
         record {
           loaded = o.loaded;
@@ -192,10 +182,9 @@ over sheets st at = go (workable st) (sample_due st.loaded st.times) refl refl
           s = o.s;
           refuses = refused_8 (given st at) h;
           finding = stored_size (storing st at).stored (storing_within st at o.stored);
-          ground = rw (e, u);
+          ground = rw e;
         }
-    go true false e u h = absurd (subst T (sym h) tt)
-    go false d e u h = absurd (subst T (sym h) tt)
+    go false e h = absurd (subst T (sym h) tt)
 
 -- under the sheet of a state
 pub over_under : (st : State) {s : Sheet} (at : Measurement) (f : Found) → st.loaded ≡ Loaded.One s → sampled_of st at f ≡ Sampled.Refused 8

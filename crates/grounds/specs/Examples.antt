@@ -2,9 +2,7 @@
 -- `proofs/Examples.antt` proves them. Assumes nothing.
 use Rattle.std.specs.Prelude.{◌≡◌, ℤ, pos, neg_ℤ, ℕ}
 use Rattle.reference.specs.declared.Found.{Found}
-use Rattle.timing.specs.Times.{told_at}
 use Rattle.rules.specs.declared.State.{State}
-use Rattle.rules.specs.Rules.{with_times}
 use Rattle.engine.specs.Bench.{bench_state, reference_state, small_state, found_there, measuring}
 use Rattle.grounds.specs.declared.Ground.{Ground}
 use Rattle.grounds.specs.Grounds.{ground_of}
@@ -16,18 +14,11 @@ GroundIs st raw g = ground_of st (measuring raw 101300 29815 0) ≡ g
 abbrev pub holding : ℕ → State
 holding r = reference_state (found_there (Found.At r))
 
--- the bench sheet, undated, with no span set, once the clock is told this minute of 14 September 2026
-abbrev pub told_state : ℕ → State
-told_state minute = with_times bench_state (told_at bench_state.times 20260914 (pos minute))
-
 pub record GroundExamples : Type 0 where
   -- document 01's V 70,000,000, whose c would be 3,010,000,000; V −2,000,001 is refused with 7; V 40,000,000 is read
   pub v_70000000 : GroundIs bench_state (pos 70000000) Ground.WetHigh
   pub v_minus_2000001 : GroundIs bench_state (neg_ℤ (pos 2000001)) Ground.Nothing
   pub v_40000000 : GroundIs bench_state (pos 40000000) Ground.Nothing
-  -- V 70,000,000 in the first minute of the hours, and a minute before it, where it is refused with 20
-  pub minute_480 : GroundIs (told_state 480) (pos 70000000) Ground.WetHigh
-  pub minute_479 : GroundIs (told_state 479) (pos 70000000) Ground.Nothing
   -- raw 0 is read at R: 80,000,000 has too high a wet value; 150,000,000 is not above the first limit, and K is 200,000,000, but z is 150,000,000 too
   pub r_80000000 : GroundIs (holding 80000000) (pos 0) Ground.WetHigh
   pub r_150000000 : GroundIs (holding 150000000) (pos 0) Ground.ReducedHigh

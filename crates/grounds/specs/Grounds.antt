@@ -1,6 +1,6 @@
 -- R-9, grounds of over range: which of the four grounds of refusal 8 is the first that holds of a sample at a state. The four tests are those of
 -- the absolute reading (`signal_high` to `wet_high`). Assumes nothing.
-use Rattle.std.specs.Prelude.{ℕ, Bool, true, false, cond, eqb, ℤ}
+use Rattle.std.specs.Prelude.{ℕ, cond, eqb, ℤ}
 use Rattle.curve.specs.declared.Sheet.{Sheet}
 use Rattle.curve.specs.declared.Air.{Air}
 use Rattle.curve.specs.Curve.{reduced_of, wet_of}
@@ -17,7 +17,6 @@ use Rattle.rules.specs.declared.Event.{Event}
 use Rattle.rules.specs.declared.Entry.{Entry}
 use Rattle.rules.specs.Limits.{workable}
 use Rattle.events.specs.Sample.{storing}
-use Rattle.events.specs.Events.{sample_due}
 use Rattle.grounds.specs.declared.Ground.{Ground}
 
 -- its number, in document 02's order, 0 for none: the byte that a host gets
@@ -62,14 +61,9 @@ ground_under (Loaded.One s) q span mode at f = ground_on s q span mode at f
 abbrev pub finding_for : State → Measurement → Found
 finding_for st at = finding_in (storing st at).stored
 
--- by whether the sample's needs are met (R-11): none where they are not, which is refused with 20, straight after 1 and before 6
-abbrev pub ground_in_time : Bool → State → Measurement → Ground
-ground_in_time true st at = ground_under st.loaded st.q st.s st.mode at (finding_for st at)
-ground_in_time false st at = Ground.Nothing
-
 -- R-9: the ground of a sample at a state; none at a record that the engine does not work with, which is refused with 1
 unfoldable pub ground_of : State → Measurement → Ground
-ground_of st at = cond (workable st) (ground_in_time (sample_due st.loaded st.times) st at) Ground.Nothing
+ground_of st at = cond (workable st) (ground_under st.loaded st.q st.s st.mode at (finding_for st at)) Ground.Nothing
 
 -- of an entry: none of any that is no sample
 abbrev pub entry_ground : State → Entry → Ground
@@ -83,5 +77,4 @@ entry_ground st (Entry.Known Event.Start) = Ground.Nothing
 entry_ground st (Entry.Known Event.Stop) = Ground.Nothing
 entry_ground st (Entry.Known Event.Area) = Ground.Nothing
 entry_ground st (Entry.Known Event.StartShort) = Ground.Nothing
-entry_ground st (Entry.Known (Event.Clock date minute)) = Ground.Nothing
 entry_ground st (Entry.Malformed kind) = Ground.Nothing

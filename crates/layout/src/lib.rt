@@ -10,8 +10,8 @@ pub struct SheetRecord {
     pub a3: i32,
     pub t0: u32,
     pub k: u32,
-    // The last four bytes: the issue date yyyymmdd, 0 for an undated sheet (R-11).
-    pub issued: u32,
+    // The last four bytes, which are to be zero.
+    pub rest: u32,
 }
 
 // An event as the file has it: any 24 bytes are one, so that nothing of a file is lost on the way to it.
@@ -21,7 +21,7 @@ pub struct EventRecord {
     // The three bytes after the kind, which are to be zero, as one number.
     pub pad: u32,
     pub raw: i32,
-    // C, which for a load is an index and for a clock a date.
+    // C, which for a load is an index.
     pub cylinder: u32,
     pub p: u32,
     pub t: u32,

@@ -10,7 +10,6 @@ use lib.IntN.{ℤ}
 use Rattle.rules.specs.declared.State.{State}
 use Rattle.rules.specs.declared.Entry.{Entry}
 use Rattle.rules.specs.Rules.{fresh}
-use Rattle.timing.proofs.Within.{loaded_within_lem}
 use Rattle.rules.specs.Limits.{workable}
 use Rattle.events.specs.Events.{rules}
 use Rattle.engine.specs.Transcript.{transcript, leaves}
@@ -25,8 +24,7 @@ use Rattle.ledger.proofs.Tallies.{idle}
 use Rattle.ledger.proofs.Lines.{Settings, workable_is, Together, entry_good}
 
 fresh_settings : Settings fresh
-fresh_settings =
-    record { sheet = refl; zero = omega arith; span_low = omega arith; span_high = omega arith; gas = refl; dates = loaded_within_lem 0 refl }
+fresh_settings = record { sheet = refl; zero = omega arith; span_low = omega arith; span_high = omega arith; gas = refl }
 
 -- a state that goes together with some ledger and some wet values, whose stored finding is a search's, and with which the code works
 pub record Kept (st : State) : Type 0 where

@@ -7,7 +7,6 @@ use Rattle.fields.specs.Fields.{signed}
 use Rattle.layout.specs.Records.{sheet_of}
 use Rattle.reference.specs.declared.Found.{Found}
 use Rattle.store.specs.declared.Stored.{Stored}
-use Rattle.timing.specs.Needs.{sample_needs_met, times_within}
 use Rattle.rules.specs.declared.State.{State}
 use Rattle.rules.specs.declared.Answer.{Answer}
 use Rattle.sheets.specs.declared.Lookup.{Lookup}
@@ -19,16 +18,16 @@ use Rattle.engine.specs.Bench.{bench_state, reference_state, found_there}
 use Rattle.engine.proofs.Bench.{starred_cases}
 use Rattle.ledger.specs.Example.{example_sheets, example_load, example_reference, example_sample, example_area, Example}
 
-sheet : lookup_of example_sheets 0 ≡ Lookup.Found bench_sheet 0
+sheet : lookup_of example_sheets 0 ≡ Lookup.Found bench_sheet
 unfolding lookup_of sheet_of signed sheet_within
 sheet = refl
 
 load : step_of example_sheets fresh example_load ≡ answered Answer.Done bench_state
-unfolding step_of workable times_within
+unfolding step_of workable
 load = rw sheet
 
 reference : step_of example_sheets bench_state example_reference ≡ answered Answer.Done (reference_state Stored.Empty)
-unfolding step_of workable sheet_within times_within
+unfolding step_of workable sheet_within
 reference = starred_cases.reference
 
 -- R stays stored
@@ -36,11 +35,11 @@ abbrev sampled : State
 sampled = reference_state (found_there (Found.At 40000000))
 
 sample : step_of example_sheets (reference_state Stored.Empty) example_sample ≡ answered (Answer.Reading 40000000 (pos 1388160000) (pos 1388160000)) sampled
-unfolding step_of workable sheet_within times_within sample_needs_met
+unfolding step_of workable sheet_within
 sample = starred_cases.raw_10000000
 
 area : step_of example_sheets sampled example_area ≡ refused sampled 10
-unfolding step_of workable sheet_within times_within
+unfolding step_of workable sheet_within
 area = refl
 
 pub example : Example

@@ -24,19 +24,14 @@ use Rattle.rules.specs.declared.Answer.{Answer}
 use Rattle.rules.specs.declared.Stepped.{Stepped}
 use Rattle.counting.specs.Integration.{tally_area}
 use Rattle.sampling.specs.Sample.{mode_within}
-use Rattle.timing.specs.declared.Times.{Times}
-use Rattle.timing.specs.Needs.{times_within}
-use Rattle.timing.proofs.Within.{loaded_within_lem, told_within, spanned_within}
-use Rattle.rules.specs.Answer.{event_refusal}
 use Rattle.rules.specs.Rules.{answered, refused}
-use Rattle.rules.proofs.Refusals.{refusal_range}
 use Rattle.rules.specs.Limits.{loaded_within, workable}
 use Rattle.store.specs.Store.{stored_within}
 use Rattle.events.specs.Sample.{searched_for, StoredIsSearched}
-use Rattle.events.specs.Events.{closing, rules}
+use Rattle.events.specs.Events.{rules}
 use Rattle.events.proofs.Inversion.{accepted_in, given_in, wet_in}
 use Rattle.events.proofs.Stored.{agrees_in, same_sample}
-use Rattle.engine.proofs.Cases.{long, short, Ruled, refuses, malformed, loads, zeroes, spans, refers, absolute, samples, closes, lapses, starts, stops, totals, tells, ruled}
+use Rattle.engine.proofs.Cases.{long, short, closing, Ruled, refuses, malformed, loads, zeroes, spans, refers, absolute, samples, closes, starts, stops, totals, ruled}
 use Rattle.ledger.specs.Ledger.{Ledger, with_series, taken, exact_value, refused_by, ledger_step}
 use Rattle.ledger.specs.Wets.{wets_step}
 use Rattle.ledger.specs.Claim.{RefusalHolds, LedgerHolds}
@@ -44,16 +39,15 @@ use Rattle.ledger.proofs.Tallies.{tally_of, tally_area_lem, Keeps, idle, keeps_s
 use Rattle.ledger.proofs.Samples.{ledger_at, sample_worth}
 
 -- ---- settings within their limits
-pub record SettingsOk (loaded : Loaded) (q : ℤ) (s : ℕ) (mode : Mode) (times : Times) : Type 0 where
+pub record SettingsOk (loaded : Loaded) (q : ℤ) (s : ℕ) (mode : Mode) : Type 0 where
   pub sheet : loaded_within loaded ≡ true
   pub zero : nat_abs q ≤ 20000000
   pub span_low : 500000 ≤ s
   pub span_high : s ≤ 2000000
   pub gas : mode_within mode ≡ true
-  pub dates : times_within times ≡ true
 
 abbrev pub Settings : State → Type 0
-Settings st = SettingsOk st.loaded st.q st.s st.mode st.times
+Settings st = SettingsOk st.loaded st.q st.s st.mode
 
 pub workable_is : (st : State) {ws : List ℤ} {xs : List Fraction} {b : Bool} {limit : ℕ} → Settings st → Keeps st.integration ws xs b limit
     → stored_within st.stored ≡ true → workable st ≡ true
@@ -66,7 +60,6 @@ workable_is st h k f =
       le-leb st.s 2000000 h.span_high,
       h.gas,
       keeps_within k,
-      h.dates,
     )
     f
 
@@ -102,14 +95,14 @@ module _ (sheets : List ℕ) (st : State) {ws : List ℤ} {xs : List Fraction} {
       }
 
   -- ---- refused by a number of the list: the settings, the wet values and the series stay
-  refusal : {entry : Entry} {next : State} (number : ℕ) (runs : Bool) → event_refusal number ≡ true
+  refusal : {entry : Entry} {next : State} (number : ℕ) (runs : Bool) → within 1 11 number ≡ true
       → LedgerHolds g ws entry (Answer.Refused number) → Settings next → Keeps next.integration ws xs runs m
       → refused_by g entry ≡ ledger_at next xs runs m → Good sheets g ws entry (refused next number)
   unfolding ledger_step wets_step
   refusal number runs w l set i same =
-      let r = refusal_range number w in
+      let r = range 1 11 number w in
       let n : eqb number 0 ≡ false = ne_eqb number 0 (λ z. omega (arith, r.0)) in
-      makes xs runs m (w, refl, refl, refl) l set (rw n i) (rw n same)
+      makes xs runs m (r.0, r.1, refl, refl, refl) l set (rw n i) (rw n same)
 
   -- the ledger has nothing to compare with a known event that is refused
   unasked : (event : Event) (number : ℕ) → LedgerHolds g ws (Entry.Known event) (Answer.Refused number)
@@ -123,7 +116,6 @@ module _ (sheets : List ℕ) (st : State) {ws : List ℤ} {xs : List Fraction} {
   unasked Event.Stop number = tt
   unasked Event.Area number = tt
   unasked Event.StartShort number = tt
-  unasked (Event.Clock date minute) number = tt
 
   malformed_good : (kind : ℕ) (t : Bool) → eqb kind 6 ≡ t → Good sheets g ws (Entry.Malformed kind) (refused (cond t (closing st) st) 11)
   malformed_good kind true e = refusal 11 false refl refl h (keeps_closed k) (rw e)
@@ -155,36 +147,21 @@ module _ (sheets : List ℕ) (st : State) {ws : List ℤ} {xs : List Fraction} {
   unfolding ledger_step wets_step
   good (refuses {event} {number} other n) = refusal number b n (unasked event number) h k (rw other.0)
   good (malformed {kind}) = malformed_good kind (eqb kind 6) refl
-  good (loads {issued = issued} e w d) =
-      makes [] false 0 tt tt
-      (record { sheet = w; zero = omega arith; span_low = omega arith; span_high = omega arith; gas = refl; dates = loaded_within_lem issued d }) idle (rw e)
-  good (zeroes n) = makes [] false 0 tt tt (record { sheet = h.sheet; zero = n; span_low = h.span_low; span_high = h.span_high; gas = h.gas; dates = h.dates }) idle refl
-  good (spans l u) =
-      makes [] false 0 tt tt
-      (record { sheet = h.sheet; zero = h.zero; span_low = l; span_high = u; gas = h.gas; dates = spanned_within st.times h.dates }) idle refl
-  good (refers e) = makes [] false 0 tt tt (record { sheet = h.sheet; zero = h.zero; span_low = h.span_low; span_high = h.span_high; gas = e; dates = h.dates }) idle refl
-  good absolute = makes [] false 0 tt tt (record { sheet = h.sheet; zero = h.zero; span_low = h.span_low; span_high = h.span_high; gas = refl; dates = h.dates }) idle refl
+  good (loads e w) = makes [] false 0 tt tt (record { sheet = w; zero = omega arith; span_low = omega arith; span_high = omega arith; gas = refl }) idle (rw e)
+  good (zeroes n) = makes [] false 0 tt tt (record { sheet = h.sheet; zero = n; span_low = h.span_low; span_high = h.span_high; gas = h.gas }) idle refl
+  good (spans l u) = makes [] false 0 tt tt (record { sheet = h.sheet; zero = h.zero; span_low = l; span_high = u; gas = h.gas }) idle refl
+  good (refers e) = makes [] false 0 tt tt (record { sheet = h.sheet; zero = h.zero; span_low = h.span_low; span_high = h.span_high; gas = e }) idle refl
+  good absolute = makes [] false 0 tt tt (record { sheet = h.sheet; zero = h.zero; span_low = h.span_low; span_high = h.span_high; gas = refl }) idle refl
   good (samples {at} {r} y) =
       let x = accepted_in st at (searched_for st at) (sym (same_sample st at (agrees_in st at f)) ∙ given_in _ _ _ y) in
       let w = sample_worth st xs b m h.sheet at x in
       let v = exact_value g at r in
       makes (taken_at_end xs b v) (taken_runs xs b m) m tt w.holds h (keeps_counted k w.near (wet_in h.sheet x)) (taken_is v)
   good (closes {number = number} n) = refusal number false n tt h (keeps_closed k) refl
-  good (lapses e) = refusal 20 false refl tt h (keeps_closed k) refl
   good (starts long) = makes [] true _ tt tt h (keeps_started Chart.Long) refl
   good (starts short) = makes [] true _ tt tt h (keeps_started Chart.Short) refl
   good stops = makes xs false m tt tt h (keeps_closed k) refl
   good (totals t) = area_good (keeps_tally k t).0 (keeps_tally k t).1
-  good (tells {date} {minute} e) =
-      makes xs b m tt tt
-      (record {
-        sheet = h.sheet;
-        zero = h.zero;
-        span_low = h.span_low;
-        span_high = h.span_high;
-        gas = h.gas;
-        dates = told_within st.times date minute h.dates e;
-      }) k refl
 
   pub entry_good : (entry : Entry) → Good sheets g ws entry (rules sheets st entry)
   entry_good entry = good (ruled sheets st entry)

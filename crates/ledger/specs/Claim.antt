@@ -1,6 +1,6 @@
 -- Demand 3: what holds at each event of every list, refused ones included, from a fresh engine, with the exact ledger going
 -- through the same list, and beside it the wet values counted since the start. Assumes nothing.
-use Rattle.std.specs.Prelude.{true, ℕ, suc, List, [], ◌∷◌, ◌≡◌, ℤ, pos, ◌+ℤ◌, ◌-ℤ◌, length}
+use Rattle.std.specs.Prelude.{true, ℕ, suc, ◌≤◌, List, [], ◌∷◌, ◌≡◌, ℤ, pos, ◌+ℤ◌, ◌-ℤ◌, length}
 use Rattle.curve.specs.declared.Sheet.{Sheet}
 use Rattle.exact.specs.Fraction.{whole, LiesWithin, AtLeast, LessThan}
 use Rattle.exact.specs.Equation.{exact_wet, exact_dry}
@@ -14,7 +14,7 @@ use Rattle.sampling.specs.declared.Measurement.{Measurement}
 use Rattle.rules.specs.declared.Event.{Event}
 use Rattle.rules.specs.declared.Entry.{Entry}
 use Rattle.rules.specs.declared.Answer.{Answer}
-use Rattle.rules.specs.Answer.{refusal_of, m_of, x_of, y_of, event_refusal}
+use Rattle.rules.specs.Answer.{refusal_of, m_of, x_of, y_of}
 use Rattle.sampling.specs.Sample.{air_of, reference_air}
 use Rattle.rules.specs.Rules.{fresh, answered}
 use Rattle.events.specs.Events.{rules}
@@ -26,11 +26,11 @@ use Rattle.ledger.specs.Wets.{wets_step}
 
 -- ---- what holds of an answer
 
--- a refused answer has a number of the list, 1 to 11, 19 or 20, and its fields are zero. What this adds is the list, so that 0 stands for
+-- a refused answer has a number of the list, 1 to 11, and its fields are zero. What this adds is the range, so that 0 stands for
 -- accepted answers alone: the fields are zero by `m_of`, `x_of` and `y_of`, whatever the number, and `by_rules` below fixes which it is
 abbrev pub RefusalHolds : Answer → Type 0
 RefusalHolds (Answer.Refused number) =
-    (event_refusal number ≡ true) × (m_of (Answer.Refused number) ≡ 0) × (x_of (Answer.Refused number) ≡ pos 0) × (y_of (Answer.Refused number) ≡ pos 0)
+    (1 ≤ number) × (number ≤ 11) × (m_of (Answer.Refused number) ≡ 0) × (x_of (Answer.Refused number) ≡ pos 0) × (y_of (Answer.Refused number) ≡ pos 0)
 RefusalHolds Answer.Done = Unit
 RefusalHolds (Answer.Zeroed q) = Unit
 RefusalHolds (Answer.Spanned s) = Unit
@@ -97,7 +97,6 @@ LedgerHolds g ws (Entry.Known Event.Absolute) a = Unit
 LedgerHolds g ws (Entry.Known Event.Start) a = Unit
 LedgerHolds g ws (Entry.Known Event.Stop) a = Unit
 LedgerHolds g ws (Entry.Known Event.StartShort) a = Unit
-LedgerHolds g ws (Entry.Known (Event.Clock date minute)) a = Unit
 LedgerHolds g ws (Entry.Malformed kind) a = refusal_of a ≡ 11
 
 -- demands 1 and 2 at the event: answer and state after are the rules' at the state before; and the ledger's facts

@@ -27,7 +27,7 @@ example_sheets =
     ++ word 119 116 0 0
     -- K 200,000,000
     ++ word 0 194 235 11
-    -- four zero bytes: the sheet is undated (R-11)
+    -- four zero bytes
     ++ word 0 0 0 0
 
 -- the four events
@@ -62,6 +62,6 @@ example_rows =
 -- document 01's example, from a fresh engine
 pub record Example : Type 0 where
   -- the bytes say the sheet of the bench
-  pub sheet : lookup_of example_sheets 0 ≡ Lookup.Found bench_sheet 0
+  pub sheet : lookup_of example_sheets 0 ≡ Lookup.Found bench_sheet
   -- the answers are as printed
   pub rows : map record_of_line (transcript example_sheets fresh example_entries) ≡ example_rows

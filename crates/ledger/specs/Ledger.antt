@@ -85,8 +85,6 @@ accepted_by sheets g (Entry.Known Event.Start) a = started_with g long_series
 accepted_by sheets g (Entry.Known Event.Stop) a = with_series g g.series false
 accepted_by sheets g (Entry.Known Event.Area) a = g
 accepted_by sheets g (Entry.Known Event.StartShort) a = started_with g short_series
--- kind 11 leaves the ledger (R-11)
-accepted_by sheets g (Entry.Known (Event.Clock date minute)) a = g
 -- a malformed entry is never accepted
 accepted_by sheets g (Entry.Malformed kind) a = g
 

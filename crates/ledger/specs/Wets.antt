@@ -18,7 +18,6 @@ wets_by runs ws (Entry.Known Event.Start) a = []
 wets_by runs ws (Entry.Known Event.Stop) a = ws
 wets_by runs ws (Entry.Known Event.Area) a = ws
 wets_by runs ws (Entry.Known Event.StartShort) a = []
-wets_by runs ws (Entry.Known (Event.Clock date minute)) a = ws
 -- a malformed entry is never accepted
 wets_by runs ws (Entry.Malformed kind) a = ws
 

@@ -9,8 +9,9 @@ use Rattle.layout.proofs.Lent.{puts_both}
 use Rattle.format.specs.File.{header_bytes, file_bytes}
 use Rattle.format.proofs.File.{length_records, length_flat}
 use Rattle.contents.specs.Packed.{packed_bytes}
-use Rattle.packing.specs.declared.Part.{Part}
-use Rattle.packing.specs.Parts.{pieces_in, part_bytes}
+use Rattle.validation.specs.declared.Part.{Part}
+use Rattle.validation.specs.Parts.{pieces_in}
+use Rattle.packing.specs.Parts.{part_bytes}
 use Rattle.packing.proofs.Parts.{length_part, sheet_pieces, event_pieces}
 
 pub packed_put : (sheets events : List ℕ) {old a b c : List ℕ} {first at past : ℕ} → Puts old 0 (header_bytes (length sheets / 24) (length events / 24)) a first

@@ -7,19 +7,13 @@ ghost use Rattle.layout.specs.Records.{record_at};
 ghost use Rattle.layout.specs.Lent.{Puts};
 ghost use Rattle.contents.specs.Packed.{packed_status};
 ghost use Rattle.packing.specs.Write.{FillsPacked};
-ghost use Rattle.packing.specs.Parts.{pieces_in, part_bytes};
+ghost use Rattle.validation.specs.Parts.{pieces_in};
+ghost use Rattle.packing.specs.Parts.{part_bytes};
 
 use heading::put_header;
 use layout::Filled;
 use layout::records::{event_at, put_event, put_sheet, sheet_at};
-use validation::is_packed;
-
-// What the records of a slice are.
-#[derive(Drop)]
-enum Part {
-    Sheets,
-    Events,
-}
+use validation::{Part, is_packed};
 
 // Writes the session file of these sheets and events at the start of a lent buffer: 0, or 14, 11 or 15, which leaves the buffer as it was.
 pub fn write_records(sheets: &[u8], events: &[u8], out: &mut [u8]) -> Filled

@@ -6,12 +6,12 @@ use mathlib.Core.List.{List, map}
 use mathlib.Core.Path.{◌≡◌, ◌∙◌}
 use lib.ListN.{length, take, drop, length-drop}
 use lib.Seq.{take_all}
-use Rattle.layout.specs.declared.SheetRecord.{SheetRecord}
 use Rattle.layout.specs.Records.{sheet_of, event_of}
 use Rattle.rules.specs.declared.Event.{Event}
 use Rattle.format.specs.Header.{sheet_count, event_count, first_event, well_formed, records_from}
 use Rattle.entries.specs.Entries.{entry_of}
-use Rattle.contents.specs.Contents.{known_event, sheets_given, events_given, plain_file}
+use Rattle.contents.specs.declared.PlannedSheet.{PlannedSheet}
+use Rattle.contents.specs.Contents.{numbers_of, known_event, sheets_given, events_given, plain_file}
 use Rattle.contents.specs.Packed.{packed}
 use Rattle.contents.specs.Repacked.{event_bytes_of}
 use Rattle.contents.proofs.RoundTrip.{sheets_of_lem, plan_status_lem}
@@ -29,7 +29,7 @@ module _ (file : List ℕ) where
   again_11 room w p = rw (p, w)
 
   module _ {n m from : ℕ} (hn : n ≡ sheet_count file) (hm : m ≡ event_count file) (hf : from ≡ first_event file) (w : well_formed file ≡ true) where
-    pub again_written : (sheets : List SheetRecord) (events : List Event) → take n sheets ≡ records_from sheet_of file 16 n
+    pub again_written : (sheets : List PlannedSheet) (events : List Event) → take n sheets ≡ map numbers_of (records_from sheet_of file 16 n)
         → take m events ≡ map known_event (map entry_of (records_from event_of file from m)) → plain_file file ≡ true
         → {old : List ℕ} {status written : ℕ} {out : List ℕ} → FillsPlan sheets n events m old status written out → FillsAgain file old status written out
     unfolding again_status

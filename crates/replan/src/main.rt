@@ -5,9 +5,10 @@ ghost use Rattle.std.specs.Prelude.{◌≡◌, map, ◌+◌, ◌*◌, ◌≤◌,
 ghost use Rattle.layout.specs.Records.{sheet_of, event_of};
 ghost use Rattle.format.specs.Header.{records_from};
 ghost use Rattle.entries.specs.Entries.{entry_of};
-ghost use Rattle.contents.specs.Contents.{known_event};
+ghost use Rattle.contents.specs.Contents.{numbers_of, known_event};
 ghost use Rattle.replan.specs.Again.{FillsAgain};
 
+use contents::PlannedSheet;
 use entries::entry_of;
 use format::header::{event_count, sheet_count, well_formed};
 use layout::records::{event_at, sheet_at};
@@ -49,25 +50,36 @@ fn replan(file: &[u8], out: &mut [u8]) -> Filled
 }
 
 // The sheets of a file, blank ones after them.
-fn sheets_in(file: &[u8], count: usize) -> [SheetRecord; 16]
+fn sheets_in(file: &[u8], count: usize) -> [PlannedSheet; 16]
     requires { (count ≤ 16) × (16 + 24 * count ≤ length file.now) }
-    ensures { take count result ≡ records_from sheet_of file.now 16 count }
+    ensures { take count result ≡ map numbers_of (records_from sheet_of file.now 16 count) }
 {
-    let blank = SheetRecord {
+    let blank = PlannedSheet {
         a1: 0,
         a2: 0,
         a3: 0,
         t0: 0,
         k: 0,
-        issued: 0,
     };
     let mut sheets = [blank; 16];
     let mut i = 0;
     while i < count {
-        sheets[i] = sheet_at(file, 16 + 24 * i);
+        sheets[i] = numbers(sheet_at(file, 16 + 24 * i));
         i += 1;
     }
     sheets
+}
+
+fn numbers(r: SheetRecord) -> PlannedSheet
+    ensures { result ≡ numbers_of r }
+{
+    PlannedSheet {
+        a1: r.a1,
+        a2: r.a2,
+        a3: r.a3,
+        t0: r.t0,
+        k: r.k,
+    }
 }
 
 // The events of a file from an offset on, starts after them.

@@ -1,2 +1,1 @@
 pub mod Workable
-pub mod Refusals

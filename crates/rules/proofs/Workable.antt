@@ -12,7 +12,6 @@ use Rattle.counting.specs.Limits.{integration_within}
 use Rattle.sampling.specs.Sample.{mode_within}
 use Rattle.store.specs.declared.Stored.{Stored}
 use Rattle.store.specs.Store.{stored_within}
-use Rattle.timing.specs.Needs.{times_within}
 use Rattle.rules.specs.declared.Loaded.{Loaded}
 use Rattle.rules.specs.declared.State.{State}
 use Rattle.rules.specs.Limits.{loaded_within, workable}
@@ -23,21 +22,19 @@ pub record Workable (st : State) : Type 0 where
   pub s : st.s ≤ 2000000
   pub mode : mode_within st.mode ≡ true
   pub integration : integration_within st.integration ≡ true
-  pub times : times_within st.times ≡ true
   pub stored : stored_within st.stored ≡ true
 
 -- the limits but for what is stored
 abbrev set_within : State → Bool
 set_within st =
     loaded_within st.loaded && leb (nat_abs st.q) 20000000 && within 500000 2000000 st.s && mode_within st.mode
-    && integration_within st.integration && times_within st.times
+    && integration_within st.integration
 
 pub work : (st : State) → workable st ≡ true → Workable st
 unfolding workable
 work st e =
     let x = both (set_within st) (stored_within st.stored) e in
-    let t = both _ (times_within st.times) x.0 in
-    let i = both _ (integration_within st.integration) t.0 in
+    let i = both _ (integration_within st.integration) x.0 in
     let m = both _ (mode_within st.mode) i.0 in
     let s = both _ (within 500000 2000000 st.s) m.0 in
     let q = both (loaded_within st.loaded) (leb (nat_abs st.q) 20000000) s.0 in
@@ -47,13 +44,12 @@ work st e =
       s = (range 500000 2000000 st.s s.1).1;
       mode = m.1;
       integration = i.1;
-      times = t.1;
       stored = x.1;
     }
 
 -- a record with something else stored that is within its limits
 pub work_holding : (st : State) (x : Stored) → workable st ≡ true → stored_within x ≡ true
-    → workable (record { loaded = st.loaded; q = st.q; s = st.s; mode = st.mode; stored = x; times = st.times; integration = st.integration }) ≡ true
+    → workable (record { loaded = st.loaded; q = st.q; s = st.s; mode = st.mode; stored = x; integration = st.integration }) ≡ true
 unfolding workable
 work_holding st x e h = rw (both (set_within st) (stored_within st.stored) e).0 h
 

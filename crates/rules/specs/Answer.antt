@@ -1,7 +1,6 @@
 -- The paper's numbers of an answer: document 01's refusal, m, x and y for each case, and the kind byte of an entry. Assumes
 -- nothing.
-use Rattle.std.specs.Prelude.{ℕ, Bool, ◌||◌, eqb, ℤ, pos}
-use Rattle.curve.specs.Limits.{within}
+use Rattle.std.specs.Prelude.{ℕ, Bool, eqb, ℤ, pos}
 use Rattle.rules.specs.declared.Event.{Event}
 use Rattle.rules.specs.declared.Entry.{Entry}
 use Rattle.rules.specs.declared.Answer.{Answer}
@@ -42,14 +41,10 @@ y_of (Answer.Reading r wet dry) = dry
 y_of (Answer.Area n area) = pos 0
 y_of (Answer.Refused number) = pos 0
 
--- the numbers with which an event is refused: 1 to 11, and R-11's 19 and 20
-abbrev pub event_refusal : ℕ → Bool
-event_refusal number = within 1 11 number || eqb number 19 || eqb number 20
-
 abbrev pub accepted : Answer → Bool
 accepted a = eqb (refusal_of a) 0
 
--- the kind byte: 1 to 11, or that of a malformed entry
+-- the kind byte: 1 to 10, or that of a malformed entry
 abbrev pub kind_of : Entry → ℕ
 kind_of (Entry.Known (Event.Load index)) = 1
 kind_of (Entry.Known (Event.Zero raw)) = 2
@@ -61,5 +56,4 @@ kind_of (Entry.Known Event.Start) = 7
 kind_of (Entry.Known Event.Stop) = 8
 kind_of (Entry.Known Event.Area) = 9
 kind_of (Entry.Known Event.StartShort) = 10
-kind_of (Entry.Known (Event.Clock date minute)) = 11
 kind_of (Entry.Malformed kind) = kind

@@ -1,5 +1,4 @@
-// Document 01, "Engine and events": the state, the nine kinds of event, R-10's kind 10 and R-11's kind 11, with their answers, and the rules of
-// kinds 1 to 5 and 11.
+// Document 01, "Engine and events": the state, the nine kinds of event and R-10's kind 10, with their answers, and the rules of kinds 1 to 5.
 ghost use Rattle.std.specs.Prelude.{◌≡◌};
 ghost use Rattle.rules.specs.Rules.{fresh};
 
@@ -7,7 +6,6 @@ use counting::Integration;
 use curve::Sheet;
 use sampling::{Measurement, Mode};
 use store::Stored;
-use timing::{Times, loaded_times};
 
 pub mod kinds;
 
@@ -18,7 +16,7 @@ pub enum Loaded {
     One(Sheet),
 }
 
-// Zero is q, span is s; what is stored is the last search's. Times has the sheet's issue date, the clock and the span's day (R-11).
+// Zero is q, span is s; what is stored is the last search's.
 #[derive(Drop)]
 pub struct State {
     pub loaded: Loaded,
@@ -26,12 +24,10 @@ pub struct State {
     pub s: u64,
     pub mode: Mode,
     pub stored: Stored,
-    pub times: Times,
     pub integration: Integration,
 }
 
-// The kinds 1 to 11 in their order, each with its own fields at the file's widths. A short start is for a short chart (R-10); a clock tells the
-// date, from C, and the minute, from raw (R-11).
+// The kinds 1 to 10 in their order, each with its own fields at the file's widths. A short start is for a short chart (R-10).
 #[derive(Drop)]
 pub enum Event {
     Load { index: u32 },
@@ -44,7 +40,6 @@ pub enum Event {
     Stop,
     Area,
     StartShort,
-    Clock { date: u32, minute: i32 },
 }
 
 // An element of a list of events: a known event, or one that is malformed, of which the kind byte is known.
@@ -83,7 +78,6 @@ pub fn fresh_state() -> State
         s: 1000000,
         mode: Mode::Absolute,
         stored: Stored::Empty,
-        times: loaded_times(0),
         integration: Integration::Idle,
     }
 }

@@ -1,5 +1,5 @@
--- What a lookup tells: a sheet that is found is its record's and within the limits, its issue date too, and a refusal has the number 1 or 2.
--- Assumes nothing.
+-- What a lookup tells: a sheet that is found is its record's and within the limits, and a refusal has the number 1 or 2. Assumes
+-- nothing.
 use mathlib.Core.Bool.{Bool, true, false, ◌&&◌, cond}
 use mathlib.Core.List.{List}
 use mathlib.Core.Path.{◌≡◌, refl, subst}
@@ -12,19 +12,17 @@ use Rattle.curve.specs.Limits.{sheet_within}
 use Rattle.curve.proofs.Within.{both}
 use Rattle.layout.specs.declared.SheetRecord.{SheetRecord}
 use Rattle.layout.specs.Records.{sheet_at}
-use Rattle.timing.specs.Needs.{issue_within}
 use Rattle.sheets.specs.declared.Lookup.{Lookup}
-use Rattle.sheets.specs.Sheets.{as_sheet, record_within, sheets_held, found_from, lookup_of}
+use Rattle.sheets.specs.Sheets.{as_sheet, record_within, sheets_held, lookup_of}
 
--- a record that passes has a sheet within its limits, and an issue date
-record_parts : (r : SheetRecord) → record_within r ≡ true → (sheet_within (as_sheet r) ≡ true) × (issue_within r.issued ≡ true)
-record_parts r e =
+-- a record that passes has a sheet within its limits
+record_sheet : (r : SheetRecord) → record_within r ≡ true → sheet_within (as_sheet r) ≡ true
+record_sheet r e =
     let signs = non_neg r.a1 && non_neg r.a2 && non_neg r.a3 in
-    let d = both (signs && sheet_within (as_sheet r)) (issue_within r.issued) e in
-    ((both signs (sheet_within (as_sheet r)) d.0).1, d.1)
+    (both signs (sheet_within (as_sheet r)) (both (signs && sheet_within (as_sheet r)) (eqb r.rest 0) e).0).1
 
 abbrev pub LookupTold : List ℕ → ℕ → Lookup → Type 0
-LookupTold sheets index (Lookup.Found s issued) = (s ≡ as_sheet (sheet_at sheets (24 * index))) × (sheet_within s ≡ true) × (issue_within issued ≡ true)
+LookupTold sheets index (Lookup.Found s) = (s ≡ as_sheet (sheet_at sheets (24 * index))) × (sheet_within s ≡ true)
 LookupTold sheets index (Lookup.Refused number) = (1 ≤ number) × (number ≤ 2)
 
 pub lookup_told : (sheets : List ℕ) (index : ℕ) → LookupTold sheets index (lookup_of sheets index)
@@ -32,8 +30,8 @@ unfolding lookup_of
 lookup_told sheets index = go (ltb index (sheets_held sheets)) (record_within (sheet_at sheets (24 * index))) refl
   where
     go : (t u : Bool) → record_within (sheet_at sheets (24 * index)) ≡ u
-        → LookupTold sheets index (cond t (cond u (found_from (sheet_at sheets (24 * index))) (Lookup.Refused 2)) (Lookup.Refused 1))
-    go true true e = let p = record_parts (sheet_at sheets (24 * index)) e in (refl, p.0, p.1)
+        → LookupTold sheets index (cond t (cond u (Lookup.Found (as_sheet (sheet_at sheets (24 * index)))) (Lookup.Refused 2)) (Lookup.Refused 1))
+    go true true e = (refl, record_sheet (sheet_at sheets (24 * index)) e)
     go true false e = (omega arith, omega arith)
     go false u e = (omega arith, omega arith)
 

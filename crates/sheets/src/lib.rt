@@ -7,12 +7,11 @@ use curve::limits::sheet_within;
 use layout::SheetRecord;
 use layout::records::sheet_at;
 use rounding::widths::{non_negative, size};
-use timing::issue_within;
 
-// What a load finds at its index: a sheet with its issue date, 0 for an undated one, or the refusal.
+// What a load finds at its index: a sheet, or the refusal.
 #[derive(Drop)]
 pub enum Lookup {
-    Found { sheet: Sheet, issued: u32 },
+    Found(Sheet),
     Refused(u8),
 }
 
@@ -28,10 +27,7 @@ pub fn find_sheet(sheets: &[u8], index: u32) -> Lookup
     if !record_within(record) {
         return Lookup::Refused(2);
     }
-    Lookup::Found {
-        sheet: sheet_of(record),
-        issued: record.issued,
-    }
+    Lookup::Found(sheet_of(record))
 }
 
 // A record's numbers as a sheet, for coefficients that are not below 0.
@@ -62,5 +58,5 @@ fn record_within(r: SheetRecord) -> bool
     if !sheet_within(sheet_of(r)) {
         return false;
     }
-    issue_within(r.issued)
+    r.rest == 0
 }

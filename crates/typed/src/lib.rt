@@ -1,10 +1,26 @@
-// Typed events, as a lesson plan has them, as the records of a session file.
+// Typed sheets and events, as a lesson plan has them, as the records of a session file.
 ghost use Rattle.std.specs.Prelude.{◌≡◌};
-ghost use Rattle.layout.specs.Records.{EventFits};
+ghost use Rattle.layout.specs.Records.{SheetFits, EventFits};
 ghost use Rattle.entries.specs.Entries.{event_with, record_of_event};
+ghost use Rattle.contents.specs.Plan.{record_of_sheet};
 
-use layout::EventRecord;
+use contents::PlannedSheet;
+use layout::{EventRecord, SheetRecord};
 use rules::Event;
+
+// The record of a sheet: its last four bytes are zero.
+pub fn sheet_record(s: PlannedSheet) -> SheetRecord
+    ensures { (result ≡ record_of_sheet s) × SheetFits result }
+{
+    SheetRecord {
+        a1: s.a1,
+        a2: s.a2,
+        a3: s.a3,
+        t0: s.t0,
+        k: s.k,
+        rest: 0,
+    }
+}
 
 // The record that is read back as this event: zero where its kind has no field.
 pub fn event_record(event: Event) -> EventRecord
@@ -21,7 +37,6 @@ pub fn event_record(event: Event) -> EventRecord
         Event::Stop => event_with(8, 0, 0, 0, 0, 0),
         Event::Area => event_with(9, 0, 0, 0, 0, 0),
         Event::StartShort => event_with(10, 0, 0, 0, 0, 0),
-        Event::Clock { date, minute } => event_with(11, minute, date, 0, 0, 0),
     }
 }
 

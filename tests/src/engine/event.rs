@@ -1,7 +1,6 @@
-//! What goes into the engine and what comes out of it: the sheets, the eleven kinds of
+//! What goes into the engine and what comes out of it: the sheets, the ten kinds of
 //! event, and the answer.
 
-use crate::calendar::Day;
 use crate::rules::Sheet;
 
 const LOAD: u8 = 1;
@@ -14,11 +13,9 @@ const START: u8 = 7;
 const STOP: u8 = 8;
 const AREA: u8 = 9;
 const START_SHORT: u8 = 10;
-const CLOCK: u8 = 11;
 
-/// One of eleven kinds, each with its own fields, as wide as the file has them. A short start
-/// begins an integration that closes sooner. A clock tells the date, as yyyymmdd, and
-/// the minute of the day.
+/// One of ten kinds, each with its own fields, as wide as the file has them. A short start
+/// begins an integration that closes sooner.
 #[derive(Clone, Copy, Debug, PartialEq, Eq)]
 pub enum Event {
     Load { index: u32 },
@@ -31,7 +28,6 @@ pub enum Event {
     Stop,
     Area,
     StartShort,
-    Clock { date: u32, minute: i32 },
 }
 
 impl Event {
@@ -47,7 +43,6 @@ impl Event {
             Event::Stop => STOP,
             Event::Area => AREA,
             Event::StartShort => START_SHORT,
-            Event::Clock { .. } => CLOCK,
         }
     }
 }
@@ -68,7 +63,7 @@ impl Entry {
     }
 }
 
-/// A sheet as the file has it, with its date of issue, 0 for undated; not yet an accepted one.
+/// A sheet as the file has it, with its last four bytes; not yet an accepted one.
 #[derive(Clone, Copy, Debug, PartialEq, Eq)]
 pub struct SheetRecord {
     pub a1: i32,
@@ -76,11 +71,11 @@ pub struct SheetRecord {
     pub a3: i32,
     pub t0: u32,
     pub k: u32,
-    pub issue: u32,
+    pub rest: u32,
 }
 
 impl SheetRecord {
-    /// The accepted sheet, or none if a number or the date of issue is not as it must be.
+    /// The accepted sheet, or none if a number or the zero bytes are not as they must be.
     pub fn accepted(&self) -> Option<Sheet> {
         let sheet = Sheet {
             a1: i64::from(self.a1),
@@ -89,13 +84,7 @@ impl SheetRecord {
             t0: i64::from(self.t0),
             k: i64::from(self.k),
         };
-        let dated = self.issue == 0 || self.issue_day().is_some();
-        (dated && sheet.within_limits()).then_some(sheet)
-    }
-
-    /// The day of issue; an undated sheet has none.
-    pub fn issue_day(&self) -> Option<Day> {
-        Day::of(self.issue)
+        (self.rest == 0 && sheet.within_limits()).then_some(sheet)
     }
 }
 

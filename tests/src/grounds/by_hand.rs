@@ -373,8 +373,6 @@ fn refused_before() -> Owed {
         EventRecord { c: 1, ..spoilt },
         EventRecord { kind: 0, ..spoilt },
         EventRecord { kind: 10, ..spoilt },
-        EventRecord { kind: 11, ..spoilt },
-        EventRecord { kind: 12, ..spoilt },
     ];
     let malformed = malformed.map(|record| (record, 11, 0));
     let airs = [
@@ -434,71 +432,6 @@ fn other_kinds() -> Owed {
     )
 }
 
-/// Document 02's R-11: a raw signal over range by K, wherever 20 does not come before that is looked at.
-const OVER_K: i32 = 150_000_000;
-
-fn told(date: u32, minute: i32) -> Row {
-    accepted(Event::Clock { date, minute })
-}
-
-/// Before the hours and behind them, before the sheet serves and after it, in both modes.
-fn out_of_term() -> Owed {
-    let (late, read) = (refused(sample(OVER_K), 20), over(sample(OVER_K), 2));
-    owed(
-        "out of term",
-        SheetRecord { issue: 20_240_229, ..flat(10_000_000) },
-        &[
-            read,
-            refused(Event::Clock { date: 20_240_230, minute: 600 }, 19),
-            read,
-            told(20_240_228, 480),
-            late,
-            told(20_240_229, 479),
-            late,
-            told(20_240_229, 480),
-            read,
-            accepted(Event::Reference { cylinder: 0, e: 0 }),
-            read,
-            told(20_240_229, 1_019),
-            read,
-            told(20_240_229, 1_020),
-            late,
-            accepted(Event::Absolute),
-            late,
-            told(20_260_228, 480),
-            read,
-            told(20_260_301, 480),
-            late,
-            accepted(Event::Load { index: 0 }),
-            read,
-        ],
-    )
-}
-
-/// A span of no day, of today and of yesterday, and one that is refused with 20 itself.
-fn span_of_another_day() -> Owed {
-    let (late, read) = (refused(sample(OVER_K), 20), over(sample(OVER_K), 2));
-    let span = Event::Span { raw: 5_000_000, cylinder: 1, p: 101_300, t: 29_815, e: 0 };
-    owed(
-        "a span of another day",
-        flat(10_000_000),
-        &[
-            accepted(span),
-            read,
-            told(20_250_310, 600),
-            late,
-            accepted(span),
-            read,
-            told(20_250_311, 479),
-            refused(span, 20),
-            told(20_250_311, 600),
-            late,
-            accepted(span),
-            read,
-        ],
-    )
-}
-
 /// As many events as a file may have: the bench sheet's, loaded again and again.
 pub fn longest() -> Owed {
     let Owed { mut session, mut refusals, mut grounds, .. } = bench_sheet();
@@ -523,7 +456,6 @@ pub fn owed_grounds() -> Vec<Owed> {
     all.extend(around_k().into_iter().chain(high_k()).chain(wet()));
     all.extend([bench_reference(), narrow_reference(), damp_reference(), damp_sample()]);
     all.extend([moving_room(), no_signal_in_one_room(), two_sheets()]);
-    all.extend([refused_before(), other_kinds(), out_of_term(), span_of_another_day()]);
-    all.extend([longest(), nothing]);
+    all.extend([refused_before(), other_kinds(), longest(), nothing]);
     all
 }

@@ -59,10 +59,10 @@ impl Sample {
 }
 
 /// The signal that a sample is read at, and the sheet that it is read by. There is none where it is
-/// refused before: without a sheet (1), by the clock (20), with an input outside its limits (6), the
-/// reference's e among them, and without a reference signal (9).
+/// refused before: without a sheet (1), with an input outside its limits (6), the reference's e among
+/// them, and without a reference signal (9).
 pub fn signal(state: &State, stored: Stored, sample: &Sample) -> Option<(Sheet, i64)> {
-    let sheet = state.sheet.filter(|_| state.takes_samples())?;
+    let sheet = state.sheet?;
     let Sample { raw, air } = *sample;
     if !rules::raw_within_limits(raw) || !air.within_limits() {
         return None;

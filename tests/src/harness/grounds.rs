@@ -174,7 +174,7 @@ fn owed_names() -> Vec<String> {
     names.extend([MALFORMED, SPAN].map(str::to_string));
     names.extend([sample_name(MODES[0], 1), sample_name(MODES[1], 9)]);
     for mode in MODES {
-        names.extend([0, 6, 7, 8, 20].map(|number| sample_name(mode, number)));
+        names.extend([0, 6, 7, 8].map(|number| sample_name(mode, number)));
         names.push(ground_name(Ground::None, mode));
         names.extend(GROUNDS.map(|ground| ground_name(ground, mode)));
         names.extend(EXACTLY.map(|name| exact_name(name, mode)));

@@ -27,7 +27,6 @@ use crate::engine::Answer;
 use crate::file::{self, Outcome, Session, LINE_ROOM, RECORD_BYTES};
 use crate::ledger::{self, Distances};
 use crate::random::Random;
-use crate::rules::Refusal;
 use crate::sessions;
 
 /// Every accepted area among a session's answers: its place, and the wet values that it counts,
@@ -124,16 +123,13 @@ impl Program for Executable {
     }
 }
 
-/// The highest number that an event's answer can have, and one more.
-const ANSWERS_END: usize = Refusal::NotInTerm as usize + 1;
-
 /// What a campaign has gone through.
 #[derive(Clone, Debug, Default)]
 pub struct Count {
     pub sessions: u64,
     pub events: u64,
     /// How many events of a kind (first index) ended in a refusal number (second).
-    pub answers: Vec<[u64; ANSWERS_END]>,
+    pub answers: Vec<[u64; 14]>,
     pub samples_against: u64,
     pub statuses: [u64; 14],
     pub met: Distances,
@@ -141,9 +137,6 @@ pub struct Count {
 
 /// How many sessions a campaign has unless the environment says otherwise.
 pub const SESSIONS: u64 = 20_000;
-
-/// The seed of the sessions that the program under test goes through.
-pub const PROGRAM_SEED: u64 = 0x6251;
 
 /// Many sessions under one seed; a failing one is written into the folder.
 pub struct Campaign {
@@ -186,7 +179,7 @@ impl Campaign {
         &self,
         mut compare: impl FnMut(&[u8], &mut Random) -> Result<u8, String>,
     ) -> Result<Count, String> {
-        let mut count = Count { answers: vec![[0; ANSWERS_END]; 256], ..Count::default() };
+        let mut count = Count { answers: vec![[0; 14]; 256], ..Count::default() };
         for number in 0..self.sessions {
             let made = sessions::make(self.seed, number);
             let mut random = Random::of_session(!self.seed, number);

@@ -117,7 +117,7 @@ impl Tally {
 const LISTS: [(&str, usize); 2] =
     [("sheets", RECORD_BYTES * SHEETS_LIMIT + 1), ("events", RECORD_BYTES * EVENTS_LIMIT + 1)];
 
-const SHEET_FIELDS: [usize; 6] = [0, 4, 8, 12, 16, 20];
+const SHEET_FIELDS: [usize; 5] = [0, 4, 8, 12, 16];
 const RAW_FIELD: usize = 4;
 const EVENT_ENDS: [usize; 4] = [0, EVENTS_LIMIT - 1, EVENTS_LIMIT, EVENTS_LIMIT + 1];
 

@@ -39,7 +39,7 @@ fn laid_out(words: &str) -> [u8; LINE_BYTES] {
 
 /// A sheet on which a reading is its signal.
 pub fn plain_sheet() -> SheetRecord {
-    SheetRecord { a1: 10_000_000, a2: 0, a3: 0, t0: 29_815, k: 320_000_000, issue: 0 }
+    SheetRecord { a1: 10_000_000, a2: 0, a3: 0, t0: 29_815, k: 320_000_000, rest: 0 }
 }
 
 /// A sheet on which a reading is a hundred times its signal.
@@ -234,40 +234,13 @@ fn headers() -> [OwedPage; 5] {
     [1, 2, 3, 4, 5].map(page)
 }
 
-/// Document 02's R-11: a clock has no line and counts as an event, and a sample that is refused with 20
-/// has none. The sheet serves from 10 March 2025 to 9 March 2027.
-fn under_a_clock() -> OwedPage {
-    let clock = |date, minute| Event::Clock { date, minute };
-    let sheet = SheetRecord { issue: 20_250_310, ..bench::sheet() };
-    let events = [
-        sample(40_000_000),
-        clock(20_250_309, 600),
-        sample(40_000_000),
-        clock(20_250_310, 479),
-        sample(40_000_000),
-        clock(20_250_310, 480),
-        sample(40_000_000),
-        clock(20_250_310, 479),
-        sample(0),
-        clock(20_270_309, 1_019),
-        against(1_000_000_000),
-        sample(10_000_000),
-        clock(20_270_310, 480),
-        sample(10_000_000),
-    ];
-    let lines = "no wet dry diff\n2 1000.00 1000.00\n8 1000.00 1000.00\n10 0.00 0.00\n\
-                 13 1388.16 1388.16 388.16";
-    owed("under a clock", sheet, &events, 40, lines)
-}
-
 /// No event at all; no sheet, so that samples are refused with 1; samples that are refused with
 /// 7, 8 and 6, and no sample.
 pub fn empty() -> [OwedPage; 4] {
     let nothing = |name, session| OwedPage { name, session, every: 40, lines: "" };
     let events = [sample(0), sample(1)].iter().map(EventRecord::of).collect();
     let refused = [-2_000_001, 70_000_000, 150_000_001].map(sample);
-    let clock = Event::Clock { date: 20_250_310, minute: 600 };
-    let others = [Event::Start, against(0), Event::Area, Event::Stop, Event::StartShort, clock];
+    let others = [Event::Start, against(0), Event::Area, Event::Stop, Event::StartShort];
     [
         nothing("no event", Session::default()),
         nothing("no sheet", Session { sheets: Vec::new(), events }),
@@ -286,7 +259,7 @@ pub fn longest() -> Session {
 pub fn pages() -> Vec<OwedPage> {
     let mut pages = vec![example(), bench_readings(), references(), zero_and_span()];
     pages.extend([around_nothing(), differences(), faint_cylinders(), rounded_by_itself()]);
-    pages.extend([halves_across_zero(), damp_below_zero(), far_figures(), under_a_clock()]);
+    pages.extend([halves_across_zero(), damp_below_zero(), far_figures()]);
     pages.extend(headers());
     pages.extend(empty());
     pages

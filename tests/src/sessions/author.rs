@@ -2,14 +2,13 @@
 //! aim: signals that are accepted, cylinders that have a reference signal, raw
 //! signals for which a span is found.
 
-use crate::engine::{self, Event, Integration, Mode, SheetRecord, State, SAMPLE};
+use crate::engine::{self, Event, Integration, Mode, State, SAMPLE};
 use crate::file::{EventRecord, Session, SHEETS_LIMIT};
 use crate::hostile;
 use crate::random::Random;
 use crate::rules::{self, Air, Sheet};
 
 use super::damage;
-use super::dates::{self, Mend, Timetable};
 use super::numbers;
 use super::Profile;
 
@@ -19,8 +18,6 @@ pub struct Author<'a> {
     session: Session,
     state: State,
     rooms: Vec<Air>,
-    /// None where the clock is never told.
-    timetable: Option<Timetable>,
 }
 
 impl<'a> Author<'a> {
@@ -34,58 +31,25 @@ impl<'a> Author<'a> {
             };
             rooms.push(other);
         }
-        let timed = random.percent(profile.timed);
-        let timetable = timed.then(|| Timetable::new(random, profile.edge.max(20)));
         let session = Session::default();
-        Author { random, profile, session, state: State::fresh(), rooms, timetable }
+        Author { random, profile, session, state: State::fresh(), rooms }
     }
 
     /// Writes the sheets and so many events.
     pub fn write(mut self, length: usize) -> Session {
         self.write_sheets();
         while self.session.events.len() < length {
-            let event = match self.of_the_clock() {
-                Some(event) => event,
-                None => {
-                    let kind = self.next_kind();
-                    self.event(kind)
-                }
+            let kind = if self.random.percent(self.profile.stray) {
+                self.random.between(1, hostile::KINDS.len() as i64) as u8
+            } else {
+                self.next_of_a_lesson()
             };
-            self.write_event(&event);
+            self.write_kind(kind);
             if self.random.percent(self.profile.twin) && self.session.events.len() < length {
                 self.write_between();
             }
         }
         self.session
-    }
-
-    /// In a timed session the clock is told now and then. Where it has stopped the lesson, spans and
-    /// samples are tried all the same, as are a stop and a load that is refused, which leaves the
-    /// clock; and the lesson is brought back sooner or later.
-    fn of_the_clock(&mut self) -> Option<Event> {
-        let timetable = self.timetable.as_ref()?;
-        let chance = if self.state.clock.is_none() { 30 } else { 8 };
-        if self.random.percent(chance) {
-            return Some(timetable.clock(self.random, &self.state));
-        }
-        let mend = dates::mend(self.random, &self.state)?;
-        match (self.random.below(10), mend) {
-            (0..=2, Mend::Clock(event)) => Some(event),
-            (0..=2, Mend::Load) => Some(self.load()),
-            (0..=2, Mend::Span) if self.state.mode != Mode::Absolute => Some(Event::Absolute),
-            (0..=2, Mend::Span) | (3 | 4, _) => Some(self.span()),
-            (5..=7, _) => Some(self.sample()),
-            (8, _) => Some(self.random.pick(&[Event::Load { index: u32::MAX }, Event::Stop])),
-            _ => None,
-        }
-    }
-
-    fn next_kind(&mut self) -> u8 {
-        if self.random.percent(self.profile.stray) {
-            self.random.between(1, hostile::KINDS.len() as i64) as u8
-        } else {
-            self.next_of_a_lesson()
-        }
     }
 
     /// Against a reference, an event that leaves what a search found: a zero, a reference that is
@@ -122,11 +86,7 @@ impl<'a> Author<'a> {
             } else {
                 numbers::good_sheet(self.random)
             };
-            let issue = match &self.timetable {
-                Some(timetable) if !bad => timetable.issue(self.random),
-                _ => sheet.issue,
-            };
-            self.session.sheets.push(SheetRecord { issue, ..sheet });
+            self.session.sheets.push(sheet);
         }
     }
 
@@ -151,6 +111,11 @@ impl<'a> Author<'a> {
         }
     }
 
+    fn write_kind(&mut self, kind: u8) {
+        let event = self.event(kind);
+        self.write_event(&event);
+    }
+
     fn write_event(&mut self, event: &Event) {
         let mut record = EventRecord::of(event);
         if self.random.percent(self.profile.wild) {
@@ -167,8 +132,8 @@ impl<'a> Author<'a> {
     fn make_wild(&mut self, record: &mut EventRecord) {
         let number = numbers::wild(self.random);
         match (record.kind, self.random.below(5)) {
-            (2 | 3 | 6 | 11, 0) => record.raw = number as i32,
-            (1 | 3 | 4 | 11, 1) => record.c = number,
+            (2 | 3 | 6, 0) => record.raw = number as i32,
+            (1 | 3 | 4, 1) => record.c = number,
             (3 | 6, 2) => record.p = number,
             (3 | 6, 3) => record.t = number,
             (3 | 4 | 6, 4) => record.e = number,
@@ -187,7 +152,6 @@ impl<'a> Author<'a> {
             7 => Event::Start,
             8 => Event::Stop,
             9 => Event::Area,
-            11 => self.clock(),
             _ => Event::StartShort,
         }
     }
@@ -198,12 +162,6 @@ impl<'a> Author<'a> {
 
     fn round(&mut self) -> bool {
         self.random.percent(self.profile.round)
-    }
-
-    /// In a session that is not timed a stray clock is told for nothing: a short start takes its place.
-    fn clock(&mut self) -> Event {
-        let timetable = self.timetable.as_ref();
-        timetable.map_or(Event::StartShort, |timetable| timetable.clock(self.random, &self.state))
     }
 
     fn load(&mut self) -> Event {

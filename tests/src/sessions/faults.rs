@@ -1,5 +1,5 @@
 //! Invented plans of records with one thing wrong or several, and what is wrong with any:
-//! found by the papers' table of fields, and not by way of an event.
+//! found by document 01's table of fields, and not by way of an event.
 
 use std::collections::BTreeSet;
 
@@ -22,6 +22,8 @@ pub enum Fault {
     Padding(usize),
     /// A field that the kind lacks is not zero; the offset of the field.
     Lacked(u8, usize),
+    /// A byte at the end of a sheet is not zero.
+    Rest(usize),
     ManySheets,
     ManyEvents,
     /// The sheets' length is no multiple of a record's.
@@ -35,7 +37,7 @@ fn fields() -> impl Iterator<Item = usize> {
     (4..RECORD_BYTES).step_by(4)
 }
 
-/// Whether this kind has a field at this offset.
+/// Whether document 01 gives this kind a field at this offset.
 fn has_field(kind: u8, at: usize) -> bool {
     hostile::KINDS[usize::from(kind) - 1].1.contains(&at)
 }
@@ -46,6 +48,7 @@ impl Fault {
         use Fault::*;
         let mut all = vec![Kind, ManySheets, ManyEvents, SheetsCut, EventsCut, NoRoom];
         all.extend((1..4).map(Padding));
+        all.extend((20..RECORD_BYTES).map(Rest));
         let kinds = hostile::KINDS.iter().map(|(event, _)| event.kind());
         let pairs = kinds.flat_map(|kind| fields().map(move |at| (kind, at)));
         let lacked = pairs.filter(|(kind, at)| !has_field(*kind, *at));
@@ -74,6 +77,7 @@ impl Fault {
                 record.copy_from_slice(&one.session().records().events);
                 record[at + random.below(4) as usize] = spoilt;
             }
+            Fault::Rest(at) => any_record(random, sheets)[at] = spoilt,
             Fault::ManySheets => lengthen(sheets, random.pick(&[385, 17 * 24, 18 * 24, 257 * 24])),
             Fault::ManyEvents => lengthen(events, random.pick(&[64_801, 2_701 * 24, 2_702 * 24])),
             Fault::SheetsCut => cut(random, sheets),
@@ -153,6 +157,9 @@ pub fn faults(records: &Records, room: usize) -> BTreeSet<Fault> {
     ];
     let mut faults: BTreeSet<Fault> =
         whole.into_iter().filter_map(|(fault, is)| is.then_some(fault)).collect();
+    for sheet in sheets.chunks_exact(RECORD_BYTES) {
+        faults.extend((20..RECORD_BYTES).filter(|at| sheet[*at] != 0).map(Fault::Rest));
+    }
     events.chunks_exact(RECORD_BYTES).for_each(|event| faults.extend(event_faults(event)));
     faults
 }

@@ -1,14 +1,12 @@
 //! Invented sessions: lessons as a class would give them, the limits and one beside
 //! them, signals over range by every ground, noise around zero, flat lines, rooms that
-//! are hardly apart, halves at every rounding, dated sheets under a clock, hostile kinds,
-//! padding and fields, damaged headers and lengths, long integrations, and lists with hardly
-//! an accepted event. `plans`
+//! are hardly apart, halves at every rounding, hostile kinds, padding and fields, damaged
+//! headers and lengths, long integrations, and lists with hardly an accepted event. `plans`
 //! and `faults` invent what a writer of session files is given, `pages` has sessions
 //! whose figures are hard to round, and `grounds` such that aim at the limits of refusal 8.
 
 mod author;
 mod damage;
-mod dates;
 pub mod faults;
 pub mod grounds;
 mod numbers;
@@ -42,8 +40,6 @@ pub struct Profile {
     /// Sheets, rooms, spans and reference gases have round numbers, whose ratios leave a half
     /// at one rounding or another.
     round: u64,
-    /// The session is timed: its sheets have dates of issue, and the clock is told.
-    timed: u64,
     /// An event of any kind stands where a lesson would have another.
     stray: u64,
     /// A number is any that its field can hold.
@@ -65,26 +61,24 @@ const LESSON: Profile = Profile {
     steady: 0,
     twin: 0,
     round: 0,
-    timed: 5,
     stray: 3,
     wild: 0,
     spoilt: 0,
     damaged: 0,
 };
 
-pub const PROFILES: [Profile; 12] = [
+pub const PROFILES: [Profile; 11] = [
     LESSON,
     Profile { name: "limits", weight: 24, edge: 30, over: 12, stray: 8, wild: 1, ..LESSON },
-    Profile { name: "zero gas", weight: 17, edge: 20, over: 0, below: 80, ..LESSON },
+    Profile { name: "zero gas", weight: 14, edge: 20, over: 0, below: 80, ..LESSON },
     Profile { name: "flat line", weight: 9, below: 20, steady: 90, ..LESSON },
-    Profile { name: "rooms alike", weight: 19, edge: 10, over: 8, below: 30, twin: 60, ..LESSON },
-    Profile { name: "halves", weight: 17, below: 50, round: 100, ..LESSON },
+    Profile { name: "rooms alike", weight: 15, edge: 10, over: 8, below: 30, twin: 60, ..LESSON },
+    Profile { name: "halves", weight: 12, below: 50, round: 100, ..LESSON },
     Profile {
         name: "hostile",
-        weight: 17,
+        weight: 12,
         edge: 8,
         over: 4,
-        timed: 25,
         stray: 10,
         wild: 6,
         spoilt: 25,
@@ -95,23 +89,12 @@ pub const PROFILES: [Profile; 12] = [
         weight: 12,
         edge: 15,
         over: 20,
-        timed: 30,
         stray: 45,
         wild: 25,
         spoilt: 5,
         ..LESSON
     },
-    Profile { name: "term dates", weight: 32, edge: 14, over: 4, below: 25, timed: 100, ..LESSON },
-    Profile {
-        name: "noise",
-        weight: 7,
-        shortest: 0,
-        wild: 100,
-        timed: 50,
-        stray: 100,
-        spoilt: 60,
-        ..LESSON
-    },
+    Profile { name: "noise", weight: 7, shortest: 0, wild: 100, stray: 100, spoilt: 60, ..LESSON },
     Profile { name: "damaged file", weight: 10, shortest: 0, longest: 12, damaged: 90, ..LESSON },
     Profile {
         name: "long",

@@ -6,8 +6,6 @@ use crate::engine::SheetRecord;
 use crate::random::Random;
 use crate::rules::{self, Air, Refusal, Sheet};
 
-use super::dates;
-
 /// A sheet as makers give them.
 fn usual_sheet(random: &mut Random) -> SheetRecord {
     SheetRecord {
@@ -16,7 +14,7 @@ fn usual_sheet(random: &mut Random) -> SheetRecord {
         a3: random.between(0, 6_000_000) as i32,
         t0: random.between(29_315, 31_815) as u32,
         k: random.between(120_000_000, 300_000_000) as u32,
-        issue: 0,
+        rest: 0,
     }
 }
 
@@ -33,7 +31,7 @@ fn far_sheet(random: &mut Random) -> SheetRecord {
         a3: number(0, 10_000_000) as i32,
         t0: number(27_315, 32_315) as u32,
         k: number(10_000_000, 400_000_000) as u32,
-        issue: 0,
+        rest: 0,
     }
 }
 
@@ -72,11 +70,11 @@ pub fn round_sheet(random: &mut Random) -> SheetRecord {
         a3: random.pick(&[0, 0, 500_000, 2_500_000]),
         t0: random.pick(&[28_000, 30_000, 32_000]),
         k: random.pick(&[120_000_000, 160_000_000, 200_000_000]),
-        issue: 0,
+        rest: 0,
     }
 }
 
-/// A good sheet with one number just outside its limits, or with a date of issue that is none.
+/// A good sheet with one number just outside its limits, or with a byte too many.
 pub fn bad_sheet(random: &mut Random) -> SheetRecord {
     let good = good_sheet(random);
     match random.below(7) {
@@ -85,7 +83,7 @@ pub fn bad_sheet(random: &mut Random) -> SheetRecord {
         2 => SheetRecord { a3: random.pick(&[-1, 10_000_001, i32::MIN]), ..good },
         3 => SheetRecord { t0: random.pick(&[27_314, 32_316, 0, u32::MAX]), ..good },
         4 => SheetRecord { k: random.pick(&[9_999_999, 400_000_001, 0, u32::MAX]), ..good },
-        _ => SheetRecord { issue: dates::no_issue(random), ..good },
+        _ => SheetRecord { rest: 1 << random.below(32), ..good },
     }
 }
 

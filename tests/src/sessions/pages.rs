@@ -16,13 +16,12 @@ use super::author::{fields, raw_of};
 const AIRS: [Air; 2] = [bench::AIR, Air { e: 10_130, ..bench::AIR }];
 
 /// Events that have no line on a page, one of them a sample outside its limits.
-const OTHERS: [Event; 7] = [
+const OTHERS: [Event; 6] = [
     Event::Start,
     Event::StartShort,
     Event::Stop,
     Event::Area,
     Event::Zero { raw: 1_000 },
-    Event::Clock { date: 20_250_310, minute: 600 },
     Event::Sample { raw: 0, p: 0, t: 0, e: 0 },
 ];
 

@@ -4,11 +4,11 @@
 use crate::engine::{Event, SheetRecord};
 use crate::file::{EventRecord, EVENTS_LIMIT, SHEETS_LIMIT};
 use crate::hostile;
-use crate::plan::Plan;
+use crate::plan::{Plan, PlannedSheet};
 use crate::random::Random;
 use crate::rules;
 
-use super::{dates, numbers, old_bytes};
+use super::{numbers, old_bytes};
 
 /// The plan of a number under a seed, and a lent buffer that may be too short: always the same.
 pub fn planned(seed: u64, number: u64) -> (Plan, Vec<u8>) {
@@ -47,18 +47,18 @@ pub(super) fn plan(random: &mut Random, sheets: usize, events: usize) -> Plan {
     }
 }
 
-fn sheet(random: &mut Random) -> SheetRecord {
-    match random.below(4) {
+fn sheet(random: &mut Random) -> PlannedSheet {
+    let SheetRecord { a1, a2, a3, t0, k, .. } = match random.below(4) {
         0 => numbers::bad_sheet(random),
-        1 => wild_sheet(random),
-        2 => SheetRecord { issue: dates::any(random), ..numbers::good_sheet(random) },
+        1 => return wild_sheet(random),
         _ => numbers::good_sheet(random),
-    }
+    };
+    PlannedSheet { a1, a2, a3, t0, k }
 }
 
-fn wild_sheet(random: &mut Random) -> SheetRecord {
-    let [a1, a2, a3, t0, k, issue] = [(); 6].map(|()| numbers::wild(random));
-    SheetRecord { a1: a1 as i32, a2: a2 as i32, a3: a3 as i32, t0, k, issue }
+fn wild_sheet(random: &mut Random) -> PlannedSheet {
+    let [a1, a2, a3, t0, k] = [(); 5].map(|()| numbers::wild(random));
+    PlannedSheet { a1: a1 as i32, a2: a2 as i32, a3: a3 as i32, t0, k }
 }
 
 /// Loads more often than other kinds, since nothing is read without a sheet.
@@ -71,13 +71,9 @@ fn any_event(random: &mut Random, sheets: usize) -> Event {
 pub(super) fn event(random: &mut Random, kind: u8, sheets: usize) -> Event {
     let room = numbers::room(random);
     let index = random.below(sheets as u64 + 1) as i64;
-    let minute = random.between(0, 1_439);
-    let (raw, c) = match kind {
-        1 => (0, index),
-        11 => (minute, dates::any(random).into()),
-        _ => (rules::ZERO_LIMIT / 2, rules::WET_LIMIT / 15),
-    };
-    let usual = [raw, c, room.p, room.t, room.e];
+    let cylinder = rules::WET_LIMIT / 15;
+    let usual =
+        [rules::ZERO_LIMIT / 2, if kind == 1 { index } else { cylinder }, room.p, room.t, room.e];
     let [raw, c, p, t, e] = usual.map(|usual| {
         let wild = random.percent(25);
         if wild {

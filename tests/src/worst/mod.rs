@@ -108,7 +108,7 @@ impl Reading {
             a3: self.sheet.a3 as i32,
             t0: self.sheet.t0 as u32,
             k: self.sheet.k as u32,
-            issue: 0,
+            rest: 0,
         };
         let events = self.events().iter().map(EventRecord::of).collect();
         Session { sheets: vec![sheet], events }

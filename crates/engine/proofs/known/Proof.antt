@@ -36,9 +36,6 @@ returns-9 c = rw (c.area.ensures, c.before.enum-told4.given.1)
 returns-10 : tie.Need-returns-10
 returns-10 c = rw (c.start2.ensures, c.before.enum-told5.given.1)
 
-returns-11 : tie.Need-returns-11
-returns-11 c = let f : SFits w32 c.before.before.event6.given.0.1.0 = search rules in rw (simp to_z-of_z at c.tell-clock.ensures, c.before.before.event6.given.1)
-
 pub known_spec : {M : Type 1} → statement M
 known_spec =
     tie.close
@@ -46,5 +43,4 @@ known_spec =
     (λ c. search rules) (λ c κs. search rules) (λ c. search rules) (λ c κs. search rules) (λ c. search rules) (λ c κs. search rules)
     (λ c. search rules) (λ c κs. search rules) (λ c. search rules) (λ c κs. search rules) (λ c. search rules) (λ c κs. search rules)
     (λ c. search rules) (λ c κs. search rules) (λ c. search rules) (λ c κs. search rules) (λ c. search rules) (λ c κs. search rules)
-    (λ c. search rules) (λ c κs. search rules) (λ c. search rules) (λ c κs. search rules) returns returns-2 returns-3 returns-4 returns-5 returns-6
-    returns-7 returns-8 returns-9 returns-10 returns-11)
+    (λ c. search rules) (λ c κs. search rules) returns returns-2 returns-3 returns-4 returns-5 returns-6 returns-7 returns-8 returns-9 returns-10)

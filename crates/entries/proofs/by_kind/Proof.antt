@@ -43,16 +43,9 @@ returns-10 c = rw (c.known-if9.ensures, c.before.no-fields5.ensures, c.before.be
 
 returns-11 : tie.Need-returns-11
 returns-11 c =
-    let b = c.before.before in
-    let m = b.before in
-    let raw : to_z w32 (of_z w32 m.before.args.r.raw) ≡ m.before.args.r.raw = search rules in
-    rw (c.known-if10.ensures, raw, b.no-air3.ensures, m.match.keys11)
-
-returns-12 : tie.Need-returns-12
-returns-12 c =
     let r = c.match.rest in
     let s = r.0.0.0.0.0 in
-    rw (ne_eqb _ _ s.0.0.0.0.0.1, ne_eqb _ _ s.0.0.0.0.1, ne_eqb _ _ s.0.0.0.1, ne_eqb _ _ s.0.0.1, ne_eqb _ _ s.0.1, ne_eqb _ _ s.1)
+    rw (ne_eqb _ _ s.0.0.0.0.1, ne_eqb _ _ s.0.0.0.1, ne_eqb _ _ s.0.0.1, ne_eqb _ _ s.0.1, ne_eqb _ _ s.1)
     (rw (ne_eqb _ _ r.0.0.0.0.1, ne_eqb _ _ r.0.0.0.1, ne_eqb _ _ r.0.0.1, ne_eqb _ _ r.0.1, ne_eqb _ _ r.1))
 
 pub by_kind_spec : {M : Type 1} → statement M
@@ -63,5 +56,5 @@ by_kind_spec =
     (λ c κs. search rules) (λ c κs. search rules) (λ c κs. search rules) (λ c κs. search rules) (λ c κs. search rules)
     (λ c κs. search rules) (λ c κs. search rules) (λ c κs. search rules) (λ c κs. search rules) (λ c κs. search rules)
     (λ c κs. search rules) (λ c κs. search rules) (λ c κs. search rules) (λ c κs. search rules) (λ c κs. search rules)
-    (λ c κs. search rules) (λ c κs. search rules) (λ c κs. search rules) (λ c κs. search rules)
-    returns returns-2 returns-3 returns-4 returns-5 returns-6 returns-7 returns-8 returns-9 returns-10 returns-11 returns-12)
+    (λ c κs. search rules) (λ c κs. search rules)
+    returns returns-2 returns-3 returns-4 returns-5 returns-6 returns-7 returns-8 returns-9 returns-10 returns-11)

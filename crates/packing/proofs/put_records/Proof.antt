@@ -9,7 +9,8 @@ use borrow.Author.Rules.{rules}
 use Rattle.layout.proofs.Lent.{puts_length}
 use Rattle.format.proofs.File.{length_records, record_of}
 use Rattle.format.proofs.Putting.{Putting, begun, turned, ended}
-use Rattle.packing.specs.Parts.{pieces_in, part_bytes}
+use Rattle.validation.specs.Parts.{pieces_in}
+use Rattle.packing.specs.Parts.{part_bytes}
 use Rattle.packing.proofs.Parts.{length_part}
 use Rattle.packing.proofs.put_records.Statement.{statement}
 use Rattle.packing.proofs.put_records.Tie as tie

@@ -3,7 +3,7 @@ use native.Mathlib.Omega.{arith}
 use lib.ListN.{length}
 use borrow.Author.Rules.{rules}
 use Rattle.layout.proofs.Lent.{puts_length, turned_away, filled}
-use Rattle.packing.specs.declared.Part.{Part}
+use Rattle.validation.specs.declared.Part.{Part}
 use Rattle.packing.proofs.Outcome.{packed_put, pieces_length}
 use Rattle.contents.proofs.Packed.{Served, served}
 use Rattle.packing.proofs.write_records.Statement.{statement}

@@ -7,7 +7,6 @@ use borrow.Author.Rules.{rules}
 use Rattle.layout.proofs.Lent.{puts_length, turned_away, filled}
 use Rattle.contents.proofs.Planned.{Served, served, sheets_length, plan_put}
 use Rattle.contents.proofs.RoundTrip.{held}
-use Rattle.plan.proofs.Widths.{sheets_fit_lem}
 use Rattle.plan.proofs.write.Statement.{statement}
 use Rattle.plan.proofs.write.Tie as tie
 
@@ -37,7 +36,7 @@ put-events-requires c κs =
     let s = c.before.before.before in
     let b = s.before.before.before.before in
     let p = b.put-header.ensures in
-    let q = s.put-sheets.ensures in
+    let q = s.put-sheets.ensures.0 in
     let d = b.before.before in
     let a = d.before.before.before.args in
     let h = has d in
@@ -57,9 +56,8 @@ returns-2 c =
     let h = has d in
     let few = s.put-sheets.ensures in
     let short = e.put-events.ensures in
-    let put = plan_put a.sheets a.n a.events a.m (long d).0 (long d).1 b.put-header.ensures few short.0 in
-    let fit = sheets_fit_lem a.n a.sheets _ d.before.before.before.well-formed.0.1.1 in
-    (filled d.before.status-for.ensures d.if1.false put, λ z. held a.sheets a.n a.events a.m (long d).0 (long d).1 h fit short.1 put)
+    let put = plan_put a.sheets a.n a.events a.m (long d).0 (long d).1 b.put-header.ensures few.0 short.0 in
+    (filled d.before.status-for.ensures d.if1.false put, λ z. held a.sheets a.n a.events a.m (long d).0 (long d).1 h few.1 short.1 put)
 
 pub write_spec : {M : Type 1} → statement M
 write_spec =

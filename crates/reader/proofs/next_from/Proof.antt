@@ -32,8 +32,8 @@ use Rattle.reader.specs.contracts.moved as moved
 use Rattle.reader.proofs.moved.Symbol as moved-def
 use Rattle.reader.proofs.moved.Symbol.{name as #reader·moved}
 use Rattle.reader.proofs.moved.Met as moved-thm
-use Rattle.reader.specs.contracts.next_from.Key.{name as #reader·next_from}
-use Rattle.reader.specs.contracts.next_from as next_from
+use Rattle.reader.specs.contracts.next_from.Key.{name as #reader·next-from}
+use Rattle.reader.specs.contracts.next_from as next-from
 use Rattle.reader.proofs.next_from.Statement as stated
 use Rattle.reader.proofs.next_from.Code as code
 
@@ -50,11 +50,11 @@ module _ {M : Type 1} {𝓤 : Ura M} (𝓛 : Logic 𝓤) (mem : Memory → SProp
     (κ : Lft) (q : Share) (s : Bor (List ℕ)) (n : ℕ) (ok : n < 2 ^ 64) (within : n + 24 ≤ length (now s)) where
   open 𝓛 use {H}
 
-  abbrev Bound : (walk_of 𝓛 next_from.ended (gone next_from.ended) (next_from.clauses 𝓛 mem run)).Ghost
+  abbrev Bound : (walk_of 𝓛 next-from.ended (gone next-from.ended) (next-from.clauses 𝓛 mem run)).Ghost
   Bound = (((κ, tt), (q, tt), tt, (s, (n, tt)), (machine s ∷ [], (vint w64 n ∷ [], tt))), tt)
 
   abbrev Ends : Val → SProp 𝓤
-  Ends = (walk_of 𝓛 next_from.ended (gone next_from.ended) (next_from.clauses 𝓛 mem run)).post Bound
+  Ends = (walk_of 𝓛 next-from.ended (gone next-from.ended) (next-from.clauses 𝓛 mem run)).post Bound
 
   -- the machine value of the reader that is made
   abbrev mach : Val
@@ -87,12 +87,12 @@ module _ {M : Type 1} {𝓤 : Ura M} (𝓛 : Logic 𝓤) (mem : Memory → SProp
   exits t k e f fits =
       let y : Yielded = record { event = t; at = k } in
       qed 𝓛 (token κ q ∷ ‵ ((S.the_row).own_val t (S'.lowered t ∷ [])) ∷ []) ∵
-      suffices ! _ (ends_at 𝓛 next_from.ended (gone next_from.ended) (next_from.clauses 𝓛 mem run) Bound _ y (tt, (tt, tt)) (tt, (tt, tt))) $
+      suffices ! _ (ends_at 𝓛 next-from.ended (gone next-from.ended) (next-from.clauses 𝓛 mem run) Bound _ y (tt, (tt, tt)) (tt, (tt, tt))) $
       says ! (λ i. record { event = e i; at = f i }) $ frame ! $ nothing ! $ nothing ! $ fjoin ! $ nothing ! $ fjoin ! $ frame ! $
       nothing ! $ owned ! usize (Is usize) (uint_Makes 𝓛 w64) k _ (refl, fits) $ fjoin ! $ move ! (1 ∷ 0 ∷ []) $ fjoin ! $
       by ! (own_shut 𝓛 Y.the_type Y'.the_laws (t, (k, tt)))
 
-  walk : Is (Bytes κ) s (machine s ∷ []) → ent 𝓤 (on_entry 𝓛 next_from.signature (κ, tt) (q, tt) (s, (n, tt)) (machine s ∷ [], (vint w64 n ∷ [], tt)))
+  walk : Is (Bytes κ) s (machine s ∷ []) → ent 𝓤 (on_entry 𝓛 next-from.signature (κ, tt) (q, tt) (s, (n, tt)) (machine s ∷ [], (vint w64 n ∷ [], tt)))
       (WpFn 𝓤 H 𝓣.C 𝓣.Λ code.function (machine s ∷ vint w64 n ∷ []) Ends)
   walk p =
       let slice = ((shr_slice_Lawful 𝓛 (named 0) κ u8).typed s (machine s ∷ []) p).0 in
@@ -144,7 +144,7 @@ next_from_spec 𝓤 𝓛 𝓜 𝓡 =
     let yields = cited 𝓤 𝓛.H (Yields 𝓛 𝓜.mem 𝓡.run) 𝓜 𝓡 code.env #reader·event event-def.routine code.calls-reader::event
     (event-thm.met 𝓤 𝓛 𝓜 𝓡) in
     let moves = cited 𝓤 𝓛.H (Moved 𝓛 𝓜.mem 𝓡.run) 𝓜 𝓡 code.env #reader·moved moved-def.routine code.calls-reader::moved (moved-thm.met 𝓤 𝓛 𝓜 𝓡) in
-    met 𝓛 𝓜 𝓡 code.env #reader·next_from code.function next_from.ended (next_from.clauses 𝓛 𝓜.mem 𝓡.run) (code.unfolded 𝓤 𝓛.H 𝓜 𝓡)
+    met 𝓛 𝓜 𝓡 code.env #reader·next-from code.function next-from.ended (next-from.clauses 𝓛 𝓜.mem 𝓡.run) (code.unfolded 𝓤 𝓛.H 𝓜 𝓡)
     ((λ κs x f. refl), ((λ κs x f. refl), tt)) (λ κs. (shr_slice_vals, (uint_vals w64, tt))) (λ κs. (shr_slice_Tells (named 0) κs.0 u8, (uint_Tells w64, tt)))
     (λ κs qs bounds a g are. needs 𝓤 (a.1.0 + 24 ≤ length (now a.0)) _ (λ within.
     walk 𝓛 𝓜.mem 𝓡.run (tables_of 𝓤 𝓛.H 𝓜 (tables 𝓤 𝓛.H 𝓜 𝓡 code.env)) yields moves κs.0 qs.0 a.0 a.1.0

@@ -68,14 +68,13 @@ returns-4 c =
 
 returns-5 : tie.Need-returns-5
 returns-5 c =
-    let f = c.before in
-    let e = f.before.before.before in
+    let e = c.before.before.before.before in
     let d = e.before.before.before in
-    rw (a1_at d.before.before.before, a2_at d, a3_at e, sheet_is f.before ∙ not-false _ f.if4.false) c.issue-within.ensures
+    rw (a1_at d.before.before.before, a2_at d, a3_at e, sheet_is c.before.before ∙ not-false _ c.before.if4.false)
 
 pub record_within_spec : {M : Type 1} → statement M
 record_within_spec =
     tie.close
     (tie.spec
     (λ c κs. search rules) returns (λ c κs. search rules) returns-2 (λ c κs. search rules) returns-3 (λ c κs. search rules)
-    (λ c κs. search rules) returns-4 (λ c κs. search rules) returns-5)
+    (λ c κs. search rules) returns-4 returns-5)

@@ -45,12 +45,6 @@ returns-9 c = (rw (c.event-with9.ensures.0, c.before.enum-told4.given.1), c.even
 returns-10 : tie.Need-returns-10
 returns-10 c = (rw (c.event-with10.ensures.0, c.before.enum-told5.given.1), c.event-with10.ensures.1)
 
-returns-11 : tie.Need-returns-11
-returns-11 c =
-    let g = c.before.before.event6.given in
-    let raw : to_z w32 (of_z w32 g.0.1.0) ≡ g.0.1.0 = search rules in
-    (rw (c.event-with11.ensures.0, raw, g.1), c.event-with11.ensures.1)
-
 pub event_record_spec : {M : Type 1} → statement M
 event_record_spec =
     tie.close
@@ -58,5 +52,4 @@ event_record_spec =
     (λ c. search rules) (λ c κs. search rules) (λ c. search rules) (λ c κs. search rules) (λ c. search rules) (λ c κs. search rules)
     (λ c. search rules) (λ c κs. search rules) (λ c. search rules) (λ c κs. search rules) (λ c. search rules) (λ c κs. search rules)
     (λ c. search rules) (λ c κs. search rules) (λ c. search rules) (λ c κs. search rules) (λ c. search rules) (λ c κs. search rules)
-    (λ c. search rules) (λ c κs. search rules) (λ c. search rules) (λ c κs. search rules)
-    returns returns-2 returns-3 returns-4 returns-5 returns-6 returns-7 returns-8 returns-9 returns-10 returns-11)
+    (λ c. search rules) (λ c κs. search rules) returns returns-2 returns-3 returns-4 returns-5 returns-6 returns-7 returns-8 returns-9 returns-10)

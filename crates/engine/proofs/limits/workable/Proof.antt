@@ -11,7 +11,6 @@ use lib.IntN.{nat_abs}
 use Rattle.curve.specs.Limits.{within}
 use Rattle.counting.specs.Limits.{integration_within}
 use Rattle.sampling.specs.Sample.{mode_within}
-use Rattle.timing.specs.Needs.{times_within}
 use Rattle.rules.specs.Limits.{loaded_within, workable}
 use Rattle.engine.proofs.limits.workable.Statement.{statement}
 use Rattle.engine.proofs.limits.workable.Tie as tie
@@ -22,7 +21,7 @@ returns c = rw (sym c.before.loaded_within.ensures ∙ not-true _ c.if1.true)
 
 -- each test that is passed, where it is passed
 abbrev start1 : tie.Else1 → tie.Start
-start1 c = c.before.before.before
+start1 c = c.before.before
 
 loaded_at : (c : tie.Else1) → loaded_within (start1 c).args.st.loaded ≡ true
 loaded_at c = sym c.before.loaded_within.ensures ∙ not-false _ c.if1.false
@@ -78,35 +77,15 @@ integration_at c = sym c.before.integration-within.ensures ∙ not-false _ c.if5
 returns-6 : tie.Need-returns-6
 unfolding workable
 returns-6 c =
-    let i = c.before.before in
+    let i = c.before in
     let m = i.before.before in
     let d = m.before.before in
     let e = d.before.before in
-    rw (
-      loaded_at e.before.before.before,
-      q_at e,
-      s_at d,
-      mode_at m,
-      integration_at i,
-      sym c.before.times-within.ensures ∙ not-true _ c.if6.true,
-    )
-
-times_at : (c : tie.Else6) → times_within (start3 c.before.before.before.before.before.before).args.st.times ≡ true
-times_at c = sym c.before.times-within.ensures ∙ not-false _ c.if6.false
-
-returns-7 : tie.Need-returns-7
-unfolding workable
-returns-7 c =
-    let t = c.before in
-    let i = t.before.before in
-    let m = i.before.before in
-    let d = m.before.before in
-    let e = d.before.before in
-    rw (loaded_at e.before.before.before, q_at e, s_at d, mode_at m, integration_at i, times_at t) c.stored-within.ensures
+    rw (loaded_at e.before.before.before, q_at e, s_at d, mode_at m, integration_at i) c.stored-within.ensures
 
 pub workable_spec : {M : Type 1} → statement M
 workable_spec =
     tie.close
     (tie.spec
     (λ c κs. search rules) returns (λ c κs. search rules) returns-2 (λ c κs. search rules) returns-3 (λ c κs. search rules) returns-4
-    (λ c κs. search rules) returns-5 (λ c κs. search rules) returns-6 (λ c κs. search rules) returns-7)
+    (λ c κs. search rules) returns-5 (λ c κs. search rules) returns-6)

@@ -12,7 +12,7 @@ use Rattle.rounding.proofs.Tests.{answered_no, answered_yes}
 use Rattle.sampling.specs.declared.Measurement.{Measurement}
 use Rattle.rules.specs.declared.State.{State}
 use Rattle.rules.specs.declared.Event.{Event}
-use Rattle.rules.specs.declared.Event.TheVariants.{Load, Zero, Span, Reference, Absolute, Sample, Start, Stop, Area, StartShort, Clock}
+use Rattle.rules.specs.declared.Event.TheVariants.{Load, Zero, Span, Reference, Absolute, Sample, Start, Stop, Area, StartShort}
 use Rattle.rules.specs.declared.Entry.{Entry}
 use Rattle.rules.specs.declared.Stepped.{Stepped}
 use Rattle.rules.specs.Answer.{refusal_of}
@@ -31,12 +31,9 @@ returns c =
     let n = answered_no c.before.over_range.ensures c.if1.true in
     sym (unnamed s.requires.sheets s.args.st s.args.entry (rw s.requires.is at n))
 
-returns-2 : tie.Need-returns-2
-returns-2 c = rw c.enum_told.given.1
-
 -- what the other arm of a match on a sample knows: the tag is another's
 abbrev others : List ℕ
-others = 0 ∷ 1 ∷ 2 ∷ 3 ∷ 4 ∷ 6 ∷ 7 ∷ 8 ∷ 9 ∷ 10 ∷ []
+others = 0 ∷ 1 ∷ 2 ∷ 3 ∷ 4 ∷ 6 ∷ 7 ∷ 8 ∷ 9 ∷ []
 
 other : (st : State) (event : Event) → OneOf others (tag_of the_type event) → Ground.Nothing ≡ entry_ground st (Entry.Known event)
 other st (Load index) t = refl
@@ -49,7 +46,6 @@ other st Start t = refl
 other st Stop t = refl
 other st Area t = refl
 other st StartShort t = refl
-other st (Clock date minute) t = refl
 
 returns-3 : tie.Need-returns-3
 returns-3 c = rw c.before.before.entry.given.1 (other c.before.before.before.before.before.before.before.args.st c.before.before.entry.given.0.0 c.match2.keys2)
@@ -86,5 +82,5 @@ pub ground_of_spec : {M : Type 1} → statement M
 ground_of_spec =
     tie.close
     (tie.spec
-    (λ c κs. search rules) returns (λ c. search rules) (λ c. search rules) returns-2 (λ c. search rules) returns-3 (λ c κs. search rules)
+    (λ c κs. search rules) returns (λ c. search rules) (λ c. search rules) (λ c. search rules) (λ c. search rules) returns-3 (λ c κs. search rules)
     named-requires returns-4)

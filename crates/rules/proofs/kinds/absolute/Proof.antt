@@ -11,7 +11,7 @@ returns c = rw (c.refuse.ensures, c.before.enum-told2.given.1)
 
 returns-2 : tie.Need-returns-2
 returns-2 c =
-    let f : SFits w64 c.before.before.before.before.before.args.st.q = search rules in
+    let f : SFits w64 c.before.before.before.before.args.st.q = search rules in
     rw (simp to_z-of_z at c.idle-with.ensures, c.before.before.enum_told.given.1)
 
 pub absolute_spec : {M : Type 1} → statement M

@@ -6,9 +6,7 @@ use Rattle.rules.proofs.kinds.load.Statement.{statement}
 use Rattle.rules.proofs.kinds.load.Tie as tie
 
 returns : tie.Need-returns
-returns c =
-    let b = c.before.before in
-    rw (c.idle-with.ensures, c.before.loaded-times.ensures, ← b.before.before.before.find-sheet.ensures, b.before.sheet.given.1)
+returns c = rw (c.idle-with.ensures, ← c.before.before.before.before.find-sheet.ensures, c.before.before.s.given.1)
 
 returns-2 : tie.Need-returns-2
 returns-2 c =
@@ -20,5 +18,4 @@ pub load_spec : {M : Type 1} → statement M
 load_spec =
     tie.close
     (tie.spec
-    (λ c κs. search rules) (λ c. search rules) (λ c κs. search rules) (λ c κs. search rules) (λ c. search rules) (λ c κs. search rules)
-    returns returns-2)
+    (λ c κs. search rules) (λ c. search rules) (λ c κs. search rules) (λ c. search rules) (λ c κs. search rules) returns returns-2)

@@ -19,7 +19,7 @@ returns-3 c = rw (c.refuse3.ensures, c.before.before.before.enum_told.given.1, l
 returns-4 : tie.Need-returns-4
 returns-4 c =
     let b = c.before.before in
-    let f : SFits w64 b.before.before.before.before.before.args.st.q = search rules in
+    let f : SFits w64 b.before.before.before.before.args.st.q = search rules in
     rw (simp to_z-of_z at c.idle-with.ensures, b.before.before.enum_told.given.1, le-leb _ _ b.before.if1.false, le-leb _ _ b.if2.false)
 
 pub reference_spec : {M : Type 1} → statement M

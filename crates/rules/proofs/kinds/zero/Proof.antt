@@ -9,8 +9,8 @@ use borrow.Author.Rules.{rules}
 use Rattle.rules.proofs.kinds.zero.Statement.{statement}
 use Rattle.rules.proofs.kinds.zero.Tie as tie
 
-size_is : (c : tie.After-size) → nat_abs c.before.before.before.before.args.raw ≡ c.size.result
-size_is c = let f = c.before.before.before.before.ranges.raw in sym (simp to_z-of_z at c.size.ensures)
+size_is : (c : tie.After-size) → nat_abs c.before.before.before.args.raw ≡ c.size.result
+size_is c = let f = c.before.before.before.ranges.raw in sym (simp to_z-of_z at c.size.ensures)
 
 returns : tie.Need-returns
 returns c = rw (c.refuse.ensures, c.before.enum-told2.given.1)
@@ -21,7 +21,7 @@ returns-2 c = rw (c.refuse2.ensures, c.before.before.before.enum_told.given.1, s
 returns-3 : tie.Need-returns-3
 returns-3 c =
     let b = c.before.before in
-    let f = b.before.before.before.before.before.ranges.raw in
+    let f = b.before.before.before.before.ranges.raw in
     let g : SFits w64 c.before.wide.result = search rules in
     let e = simp to_z-of_z at c.before.wide.ensures in
     rw (simp to_z-of_z at c.idle-with.ensures, e, b.before.before.enum_told.given.1, size_is b.before, le-leb _ _ b.if1.false)

@@ -22,6 +22,7 @@ fails_at b t e = subst T e t
 
 settled : (b : Bool) → T b → b ≡ true
 settled true t = refl
+settled false t = elim t [ ]
 
 pub lt_true : (a b : ℤ) → lt_z a b ≡ true → a <ℤ b
 lt_true a b e = lt_z_yes (holds (lt_z a b) e)

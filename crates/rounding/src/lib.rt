@@ -1,4 +1,6 @@
 // Rounding to the nearest whole number, and the signed arithmetic that the crates above build on.
+#![tactic(auto)]
+
 ghost use Rattle.std.specs.Prelude.{◌≡◌, ◌*◌, ◌<◌, ◌≤◌, nat_abs, pos, ◌*ℤ◌};
 ghost use Rattle.rounding.specs.Near.{nearest, nearest_size};
 

@@ -7,6 +7,8 @@
 // after it, and the answer of a sample at that P and T. Last, grounds at other places, where a search is made, and in absolute mode. All of it was
 // computed by the independent implementation in tests/, which works from documents 01 and 02 alone, and a test holds the file to it; but for the two
 // lines of R 150,000,001, a record that the engine does not work with, whose refusal 1 and ground 0 are ours.
+#![tactic(auto)]
+
 ghost use Rattle.std.specs.Prelude.{◌≡◌, true, ◌≤◌};
 ghost use Rattle.curve.specs.Limits.{SheetOk};
 ghost use Rattle.reference.specs.Search.{found_value};

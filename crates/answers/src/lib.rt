@@ -1,4 +1,6 @@
 // The answers of a session file in a lent buffer, as records or in any other form.
+#![tactic(auto)]
+
 ghost use Rattle.std.specs.Prelude.{◌≡◌};
 ghost use Rattle.answers.specs.Run.{status_as, FillsAs};
 

@@ -4,6 +4,8 @@
 // the table the first two figures are source document 000's Table 3-1, typed from it below (mV, and ppm as pmol/mol). The
 // third is ours and the fourth its difference from the document's; both were computed by the independent implementation in
 // tests/, which works from document 01 alone. Half of the document's last digit is 50,000: no row differs by more.
+#![tactic(auto)]
+
 ghost use Rattle.std.specs.Prelude.{◌<◌, ◌≤◌, nat_abs};
 
 use curve::{Air, Reading, Sheet};

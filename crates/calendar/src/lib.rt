@@ -1,4 +1,6 @@
 // R-11's calendar: dates as numbers yyyymmdd, 1 January 2000 to 31 December 2099, and the days on which a dated sheet serves.
+#![tactic(auto)]
+
 ghost use Rattle.std.specs.Prelude.{◌≡◌, true, ◌≤◌};
 ghost use Rattle.calendar.specs.Dates.{leap_year, month_length, valid_date, next_day};
 ghost use Rattle.calendar.specs.Term.{serves as Term·serves};

@@ -6,6 +6,8 @@
 // closes or discards one, or leaves it: its answer, how the integration stands after it, and the area after 600,001 samples more: its n is where the
 // integration closed, and it is refused where none stands. The refused sample has raw 150,000,001, the zero raw 0; a malformed event has the kind byte that is
 // named. All of it was computed by the independent implementation in tests/, which works from documents 01 and 02 alone, and a test holds the file to it.
+#![tactic(auto)]
+
 ghost use Rattle.std.specs.Prelude.{◌≤◌};
 
 use counting::{Integration, limit_of};

@@ -1,4 +1,6 @@
 // Document 01, "Curve and absolute reading": from a signal to its wet and dry value.
+#![tactic(auto)]
+
 ghost use Rattle.std.specs.Prelude.{◌≡◌};
 ghost use Rattle.curve.specs.Limits.{SheetOk, AirOk};
 ghost use Rattle.curve.specs.Absolute.{reading_refusal, absolute_of};
@@ -10,7 +12,7 @@ pub mod limits;
 pub mod steps;
 
 // An analyser's calibration sheet: coefficients A1, A2, A3, temperature T0 and K, in document 01's units.
-#[derive(Drop)]
+#[derive(Clone, Copy)]
 pub struct Sheet {
     pub a1: u64,
     pub a2: u64,
@@ -20,7 +22,7 @@ pub struct Sheet {
 }
 
 // The air in the cell: pressure P and vapour pressure e in Pa, temperature T in hundredths of a kelvin.
-#[derive(Drop)]
+#[derive(Clone, Copy)]
 pub struct Air {
     pub p: u64,
     pub t: u64,
@@ -28,7 +30,7 @@ pub struct Air {
 }
 
 // The wet value in pmol/mol, or why there is none.
-#[derive(Drop)]
+#[derive(Clone, Copy)]
 pub enum Reading {
     Value(i64),
     // Refusal 7: below −2,000,000.

@@ -1,8 +1,10 @@
 // An answer record as doubles: the host's answer.
+#![tactic(auto)]
+
 pub mod answers;
 
 // A reading as doubles, each the whole number exactly. The signal is R.
-#[derive(Drop)]
+#[derive(Clone, Copy)]
 pub struct Doubles {
     pub wet: f64,
     pub dry: f64,
@@ -10,7 +12,7 @@ pub struct Doubles {
 }
 
 // The host's answer: a reading, an area, or the number of a refusal.
-#[derive(Drop)]
+#[derive(Clone, Copy)]
 pub enum HostAnswer {
     Reading(Doubles),
     Area(f64),

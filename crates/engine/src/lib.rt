@@ -1,4 +1,6 @@
 // Document 01, "Engine and events": one step.
+#![tactic(auto)]
+
 ghost use Rattle.std.specs.Prelude.{◌≡◌, true};
 ghost use Rattle.events.specs.Events.{event_rule};
 ghost use Rattle.rules.specs.Limits.{workable as Limits·workable};

@@ -1,4 +1,6 @@
 // Event records as entries: an event of one of the kinds 1 to 10, or a malformed one, which is refusal 11.
+#![tactic(auto)]
+
 ghost use Rattle.std.specs.Prelude.{◌≡◌, ◌&&◌, eqb};
 ghost use Rattle.entries.specs.Entries.{no_raw, no_cylinder, no_air, no_fields, measured as Entries·measured, known_if, by_kind, entry_of};
 

@@ -1,4 +1,6 @@
 // Little-endian numbers in a slice of bytes, and signed ones by two's complement: read at an index, and put at one.
+#![tactic(auto)]
+
 ghost use Rattle.std.specs.Prelude.{◌≡◌, [], ◌∷◌, ◌+◌, ◌*◌, ◌/◌, ◌%◌, ◌≤◌, length};
 ghost use Rattle.fields.specs.Fields.{number_of, u32_at, u64_at, u32_bytes, words_bytes, signed32, signed64, bits32, bits64, splice};
 

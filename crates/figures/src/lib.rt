@@ -1,5 +1,7 @@
 // Figures and ordinals at the right end of their columns, in ASCII, put into a lent buffer. Each function answers the position past what
 // it put, and all other bytes stay.
+#![tactic(auto)]
+
 ghost use Rattle.std.specs.Prelude.{◌≡◌, ◌∷◌, ◌+◌, ◌≤◌, ◌<◌, nat_abs, length};
 ghost use Rattle.layout.specs.Lent.{Puts};
 ghost use Rattle.text.specs.Line.{decimal};

@@ -1,1 +1,2 @@
 // R-7's claims over every list of events: definitions and proofs alone, no function.
+#![tactic(auto)]

@@ -1,5 +1,7 @@
 // What is put of each event of a session file of which every event has its piece, in each form. `outputs` asks here, once for an event: another form
 // that goes by the event's ordinal and its line of the transcript is another case of `room_of` and `emit`.
+#![tactic(auto)]
+
 ghost use Rattle.std.specs.Prelude.{◌≡◌, ◌+◌, ◌≤◌, ◌<◌, length};
 ghost use Rattle.layout.specs.Lent.{Puts};
 ghost use Rattle.rules.specs.Answer.{m_of};
@@ -17,7 +19,7 @@ use rules::{Answer, State, Stepped};
 use text::{put_byte, put_line};
 
 // The answers of a file as records of 24 bytes, or as printed lines; or the grounds of those that are over range, a byte each (R-9).
-#[derive(Drop)]
+#[derive(Clone, Copy)]
 pub enum Form {
     Records,
     Lines,

@@ -1,11 +1,13 @@
 // R-9: why a sample is over range, so that a teacher turns the right knob.
+#![tactic(auto)]
+
 ghost use Rattle.std.specs.Prelude.{◌≡◌};
 ghost use Rattle.grounds.specs.Grounds.{ground_number};
 
 pub mod naming;
 
 // The four grounds of refusal 8 in document 02's order, or none.
-#[derive(Drop)]
+#[derive(Clone, Copy)]
 pub enum Ground {
     Nothing,
     // The signal is above 150,000,000.

@@ -1,4 +1,6 @@
 // The header of a session file that is written.
+#![tactic(auto)]
+
 ghost use Rattle.std.specs.Prelude.{◌≤◌, length};
 ghost use Rattle.layout.specs.Lent.{Puts};
 ghost use Rattle.format.specs.File.{header_bytes};

@@ -1,5 +1,7 @@
 // The program: a session file on standard input, a printed line for each of its events on standard output. `stdin` is the
 // session of document 01's "Session file and program", and `stdout` what that chapter says it prints.
+#![tactic(auto)]
+
 use libc::{STDIN_FILENO, STDOUT_FILENO};
 
 fn main() {

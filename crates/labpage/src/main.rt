@@ -1,6 +1,8 @@
 // The program: a session file on standard input, its page for the lab book on standard output. Its one argument is the number of sample
 // lines under a header line, 40 without. What it cannot do it says in one line on standard error. `stdin` is a session of document 01's
 // cases in both modes, and `stdout` the page that the paper's values make.
+#![tactic(auto)]
+
 ghost use Rattle.std.specs.Prelude.{◌≡◌};
 ghost use Rattle.labpage.specs.Number.{chosen_of, number_said, follows as Number·follows};
 

@@ -1,5 +1,7 @@
 // The writer of lesson plans for sheets and events that are handed over as the bytes of their records, as a C program has them. Its stack is
 // small: nothing is copied but into the lent buffer.
+#![tactic(auto)]
+
 ghost use Rattle.std.specs.Prelude.{◌≡◌, ◌+◌, ◌*◌, ◌≤◌, length};
 ghost use mathlib.Core.List.{flat_map};
 ghost use Rattle.fields.specs.Fields.{splice};

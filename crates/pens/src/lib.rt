@@ -1,4 +1,6 @@
 // A chart recorder for a host, which names the kind of a channel by a byte and lends the places for what comes out.
+#![tactic(auto)]
+
 ghost use Rattle.std.specs.Prelude.{◌≡◌};
 ghost use Rattle.recorder.specs.Recorder.{packed_refusal, packed_word};
 ghost use Rattle.pens.specs.Pens.{pack_for, unpack_for, unpacked_refusal, code_left, channel_left};
@@ -6,7 +8,7 @@ ghost use Rattle.pens.specs.Pens.{pack_for, unpack_for, unpacked_refusal, code_l
 use recorder::{ChannelKind, Packed, Unpacked, pack, unpack};
 
 // What a word holds, or refusal 18 for a kind that there is not.
-#[derive(Drop)]
+#[derive(Clone, Copy)]
 pub enum HostUnpacked {
     Held(Unpacked),
     Refused,

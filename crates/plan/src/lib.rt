@@ -1,4 +1,6 @@
 // Lesson plans: typed sheets and events, written as a session file into a lent buffer.
+#![tactic(auto)]
+
 ghost use Rattle.std.specs.Prelude.{◌≡◌, ◌+◌, ◌*◌, ◌≤◌, length, take};
 ghost use mathlib.Core.List.{flat_map};
 ghost use Rattle.layout.specs.Lent.{Puts};

@@ -1,4 +1,6 @@
 // The printed lines of a session file, as document 01's program writes them.
+#![tactic(auto)]
+
 ghost use Rattle.std.specs.Prelude.{◌≤◌, length};
 ghost use Rattle.layout.specs.Lent.{Puts};
 ghost use Rattle.text.specs.Line.{line_room};

@@ -1,5 +1,7 @@
 // A reader over the lent file: it keeps a position, yields the event there and moves on by one record. Each function over it only
 // takes it apart or makes it: the work is done by functions on a slice and a number.
+#![tactic(auto)]
+
 ghost use Rattle.std.specs.Prelude.{◌≡◌, ◌+◌, ◌≤◌, length};
 ghost use Rattle.layout.specs.Records.{event_at};
 ghost use Rattle.format.specs.Header.{first_event};
@@ -9,7 +11,7 @@ use format::header::first_event;
 use layout::EventRecord;
 use layout::records::event_at;
 
-#[derive(Drop)]
+#[derive(Clone, Copy)]
 pub struct Reader<'a> {
     pub src: &'a [u8],
     pub at: usize,
@@ -48,7 +50,7 @@ pub fn moved<'a>(r: Reader<'a>) -> Reader<'a>
 // ---- for callers with plain parameters: no proof above these two meets a held reference
 
 // An event of a file, and the position after it.
-#[derive(Drop)]
+#[derive(Clone, Copy)]
 pub struct Yielded {
     pub event: EventRecord,
     pub at: usize,

@@ -1,4 +1,6 @@
 // Document 02's R-8, chart recorder output: a wet value as the twelve-bit code of a channel, and code and channel number as one word.
+#![tactic(auto)]
+
 ghost use Rattle.std.specs.Prelude.{◌≡◌, ◌≤◌, ◌<◌, nat_abs};
 ghost use Rattle.std.specs.Int.Signed.{lt_z};
 ghost use Rattle.recorder.specs.Recorder.{in_range, accepts, Ends, ratio_of, held_of, code_of, word_of, pack_of, code_in, unpack_of};
@@ -7,21 +9,21 @@ use rounding::near_scaled;
 use rounding::signed::{difference, magnitude};
 
 // What a channel drives its pen with.
-#[derive(Drop)]
+#[derive(Clone, Copy)]
 pub enum ChannelKind {
     Voltage,
     Current,
 }
 
 // The word for the recorder, or refusal 18.
-#[derive(Drop)]
+#[derive(Clone, Copy)]
 pub enum Packed {
     Word(u16),
     Refused,
 }
 
 // What a word holds.
-#[derive(Drop)]
+#[derive(Clone, Copy)]
 pub struct Unpacked {
     pub code: i16,
     pub channel: u8,

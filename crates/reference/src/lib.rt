@@ -1,4 +1,6 @@
 // Document 01, "Reference signal and span": from a cylinder back to its signal, and the settings that rest on it.
+#![tactic(auto)]
+
 ghost use Rattle.std.specs.Prelude.{◌≡◌, ℕ, ◌-◌, ◌≤◌, nat_abs};
 ghost use Rattle.curve.specs.Limits.{SheetOk, AirOk};
 ghost use Rattle.reference.specs.Search.{least, serves, reference_of, span_of};
@@ -11,7 +13,7 @@ use rounding::signed::{at_least, difference, positive};
 pub mod signal;
 
 // What a search finds: the first number that serves, or none.
-#[derive(Drop)]
+#[derive(Clone, Copy)]
 pub enum Found {
     At(u64),
     // Refusal 9 for a reference signal, 5 for a span.
@@ -19,7 +21,7 @@ pub enum Found {
 }
 
 // What a search runs over: signals, or the spans under which raw is read with the zero q.
-#[derive(Drop)]
+#[derive(Clone, Copy)]
 pub enum Sought {
     Signal,
     Span { raw: i64, q: i64 },

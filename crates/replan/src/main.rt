@@ -1,6 +1,8 @@
 // A session file planned again: its sheets and events, typed, go through the writer of lesson plans, and what it makes is written to
 // standard output. A file that the writer makes comes out byte for byte; of any other nothing is written. `stdin` is the session of
 // document 01's "Session file and program", and `stdout` the same bytes.
+#![tactic(auto)]
+
 ghost use Rattle.std.specs.Prelude.{◌≡◌, map, ◌+◌, ◌*◌, ◌≤◌, length, take};
 ghost use Rattle.layout.specs.Records.{sheet_of, event_of};
 ghost use Rattle.format.specs.Header.{records_from};

@@ -1,10 +1,9 @@
 -- What a test of order on integers says, held or failed, and how a fact settles it; and a test that a call answered. Assumes nothing.
 use mathlib.Core.Path.{◌≡◌, refl, sym, subst, ◌∙◌}
 use mathlib.Core.Bool.{Bool, true, false, not}
-use Prim.Native.Nat.{ℕ, ◌+◌, ◌≤◌, ◌<◌}
+use Prim.Native.Nat.{ℕ, ◌+◌, ◌≤◌}
 use native.Mathlib.Omega.{arith}
 use lib.Dec.{T}
-use borrow.Author.Tests.{not-true, not-false}
 use lib.IntN.{ℤ, pos, nat_abs}
 use lib.Signed.{lt_z, le_z, ◌≤ℤ◌, ◌<ℤ◌, le_z_yes, lt_z_yes, lt_z_no, clash_ℤ}
 use Rattle.rounding.proofs.Difference.{is_nat, is_parts, up, down, of_le, abs_le, of_abs_le}
@@ -61,11 +60,11 @@ false_le a b h = go (le_z a b) refl
     go false e = refl
 
 -- a test that a call answered, where its negation was asked: it failed, or it held
-pub answered_no : {answer test : Bool} → answer ≡ test → not answer ≡ true → test ≡ false
-answered_no {answer} e h = sym e ∙ not-true answer h
+pub answered_no : {answer test : Bool} → answer ≡ test → answer ≡ false → test ≡ false
+answered_no e h = sym e ∙ h
 
-pub answered_yes : {answer test : Bool} → answer ≡ test → not answer ≡ false → test ≡ true
-answered_yes {answer} e h = sym e ∙ not-false answer h
+pub answered_yes : {answer test : Bool} → answer ≡ test → answer ≡ true → test ≡ true
+answered_yes e h = sym e ∙ h
 
 -- a number from one that is at most n in size up to n
 pub size_between : {l z : ℤ} {n : ℕ} → nat_abs l ≤ n → l ≤ℤ z → z ≤ℤ pos n → nat_abs z ≤ n

@@ -1,5 +1,7 @@
 // The lines of a page for the lab book, put into a lent buffer: a line for an accepted sample, and a header line before it where one is
 // due. Each function answers the position past what it put, and all other bytes stay.
+#![tactic(auto)]
+
 ghost use Rattle.std.specs.Prelude.{◌≡◌, true, ◌+◌, ◌≤◌, ◌<◌, nat_abs, length};
 ghost use Rattle.layout.specs.Lent.{Puts};
 ghost use Rattle.sampling.specs.Sample.{mode_within};
@@ -12,7 +14,7 @@ use rules::Answer;
 use sampling::Mode;
 
 // What the page shows of an answer: the values of an accepted sample.
-#[derive(Drop)]
+#[derive(Clone, Copy)]
 pub enum Shown {
     Nothing,
     Sample { wet: i64, dry: i64 },

@@ -1,4 +1,6 @@
 // Document 01, "Engine and events": the state, the nine kinds of event and R-10's kind 10, with their answers, and the rules of kinds 1 to 5.
+#![tactic(auto)]
+
 ghost use Rattle.std.specs.Prelude.{◌≡◌};
 ghost use Rattle.rules.specs.Rules.{fresh};
 
@@ -10,14 +12,14 @@ use store::Stored;
 pub mod kinds;
 
 // The loaded sheet, or none.
-#[derive(Drop)]
+#[derive(Clone, Copy)]
 pub enum Loaded {
     Nothing,
     One(Sheet),
 }
 
 // Zero is q, span is s; what is stored is the last search's.
-#[derive(Drop)]
+#[derive(Clone, Copy)]
 pub struct State {
     pub loaded: Loaded,
     pub q: i64,
@@ -28,7 +30,7 @@ pub struct State {
 }
 
 // The kinds 1 to 10 in their order, each with its own fields at the file's widths. A short start is for a short chart (R-10).
-#[derive(Drop)]
+#[derive(Clone, Copy)]
 pub enum Event {
     Load { index: u32 },
     Zero { raw: i32 },
@@ -43,13 +45,13 @@ pub enum Event {
 }
 
 // An element of a list of events: a known event, or one that is malformed, of which the kind byte is known.
-#[derive(Drop)]
+#[derive(Clone, Copy)]
 pub enum Entry {
     Known(Event),
     Malformed(u8),
 }
 
-#[derive(Drop)]
+#[derive(Clone, Copy)]
 pub enum Answer {
     Done,
     // The zero that was set.
@@ -62,7 +64,7 @@ pub enum Answer {
     Refused(u8),
 }
 
-#[derive(Drop)]
+#[derive(Clone, Copy)]
 pub struct Stepped {
     pub answer: Answer,
     pub state: State,

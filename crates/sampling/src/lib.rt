@@ -1,5 +1,7 @@
 // A sample under a sheet, a zero, a span and a mode: check 6, the reference signal, and the reading. And the span setting under
 // a sheet and a zero.
+#![tactic(auto)]
+
 ghost use Rattle.std.specs.Prelude.{◌≡◌, true, ◌≤◌, nat_abs};
 ghost use Rattle.curve.specs.Limits.{SheetOk, AirOk};
 ghost use Rattle.curve.specs.Absolute.{absolute_of};
@@ -15,20 +17,20 @@ use reference::{Found, reference_signal, span_setting};
 use rounding::widths::{size, wide};
 
 // A reference gas: the cylinder Cr and its vapour pressure er.
-#[derive(Drop)]
+#[derive(Clone, Copy)]
 pub struct Cylinder {
     pub c: u64,
     pub e: u64,
 }
 
-#[derive(Drop)]
+#[derive(Clone, Copy)]
 pub enum Mode {
     Absolute,
     Against(Cylinder),
 }
 
 // What the analyser and the room give, at the file's widths.
-#[derive(Drop)]
+#[derive(Clone, Copy)]
 pub struct Measurement {
     pub raw: i32,
     pub p: u32,
@@ -37,14 +39,14 @@ pub struct Measurement {
 }
 
 // What a sample gives: its values, or the refusal.
-#[derive(Drop)]
+#[derive(Clone, Copy)]
 pub enum Sampled {
     Value { r: u64, wet: i64, dry: i64 },
     Refused(u8),
 }
 
 // What a span setting gives: the span, or the refusal.
-#[derive(Drop)]
+#[derive(Clone, Copy)]
 pub enum Spanned {
     Value(u64),
     Refused(u8),

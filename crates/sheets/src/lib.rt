@@ -1,4 +1,6 @@
 // The list of sheets, as the bytes of its records, and what a load finds there.
+#![tactic(auto)]
+
 ghost use Rattle.std.specs.Prelude.{◌≡◌};
 ghost use Rattle.sheets.specs.Sheets.{as_sheet, record_within, lookup_of};
 
@@ -9,7 +11,7 @@ use layout::records::sheet_at;
 use rounding::widths::{non_negative, size};
 
 // What a load finds at its index: a sheet, or the refusal.
-#[derive(Drop)]
+#[derive(Clone, Copy)]
 pub enum Lookup {
     Found(Sheet),
     Refused(u8),

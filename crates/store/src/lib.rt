@@ -1,5 +1,7 @@
 // R-7: what the engine keeps of its last search for a reference signal. Pressure and temperature rarely move, so most samples take what is
 // stored and search for nothing.
+#![tactic(auto)]
+
 ghost use Rattle.std.specs.Prelude.{◌≡◌, true, ◌≤◌};
 ghost use Rattle.curve.specs.Limits.{SheetOk};
 ghost use Rattle.reference.specs.Search.{found_value};
@@ -11,7 +13,7 @@ use reference::Found;
 use sampling::{Measurement, Mode, air_of, inputs_within, searched};
 
 // Empty, or the P and T last searched, with what was found there: R, or nothing (refusal 9).
-#[derive(Drop)]
+#[derive(Clone, Copy)]
 pub enum Stored {
     Empty,
     At { p: u32, t: u32, r: u32 },

@@ -1,5 +1,7 @@
 // An answer as a line of text, in ASCII, put into a lent buffer. Each function answers the position past what it put, and all other
 // bytes stay.
+#![tactic(auto)]
+
 ghost use Rattle.std.specs.Prelude.{◌≡◌, [], ◌∷◌, ◌+◌, ◌≤◌, ◌<◌, length};
 ghost use Rattle.layout.specs.Lent.{Puts};
 ghost use Rattle.text.specs.Line.{decimal, signed_decimal, line_of, line_room};

@@ -1,5 +1,7 @@
 // R-11, term dates: what the engine knows of time, and what follows from it. The clock and check 19; what a span and a sample need once the
 // clock is told, check 20.
+#![tactic(auto)]
+
 ghost use Rattle.std.specs.Prelude.{◌≡◌, true, ◌≤◌, nat_abs};
 ghost use Rattle.calendar.specs.Dates.{valid_date};
 ghost use Rattle.timing.specs.Clock.{is_minute, not_earlier, takes_clock};
@@ -10,14 +12,14 @@ use calendar::{serves, valid};
 use rounding::widths::{non_negative, size};
 
 // The clock: untold, or a date yyyymmdd and a minute of that day.
-#[derive(Drop)]
+#[derive(Clone, Copy)]
 pub enum Clock {
     Untold,
     Told { date: u32, minute: u32 },
 }
 
 // The day of the last span since the load: none was set, one was set before the clock was told, or on a date.
-#[derive(Drop)]
+#[derive(Clone, Copy)]
 pub enum SpanDay {
     Unset,
     BeforeClock,
@@ -25,7 +27,7 @@ pub enum SpanDay {
 }
 
 // The loaded sheet's issue date, 0 for an undated one, the clock, and the span's day.
-#[derive(Drop)]
+#[derive(Clone, Copy)]
 pub struct Times {
     pub issued: u32,
     pub clock: Clock,

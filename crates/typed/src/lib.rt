@@ -1,4 +1,6 @@
 // Typed sheets and events, as a lesson plan has them, as the records of a session file.
+#![tactic(auto)]
+
 ghost use Rattle.std.specs.Prelude.{◌≡◌};
 ghost use Rattle.layout.specs.Records.{SheetFits, EventFits};
 ghost use Rattle.entries.specs.Entries.{event_with, record_of_event};

@@ -1,4 +1,6 @@
 // Whether sheets and events that are handed over as the bytes of their records, as a C program has them, can be written as a session file.
+#![tactic(auto)]
+
 ghost use Rattle.std.specs.Prelude.{◌≡◌, ◌+◌, ◌≤◌, length};
 ghost use Rattle.layout.specs.Records.{record_at};
 ghost use Rattle.contents.specs.Contents.{every, is_known};
@@ -10,7 +12,7 @@ use layout::records::{event_at, sheet_at};
 use rules::Entry;
 
 // What the records of a slice are.
-#[derive(Drop)]
+#[derive(Clone, Copy)]
 pub enum Part {
     Sheets,
     Events,

@@ -1,0 +1,15 @@
+-- `reduced` meets its contract: the product fits, and D is above 0. Assumes nothing.
+use mathlib.Core.Path.{◌∙◌}
+use borrow.Author.Rules.{rules}
+use mir.Facts.{to_z-of_z}
+use mir.Syntax.{w64}
+use mir.Val.{SFits}
+use Rattle.curve.specs.Curve.{reduced_of}
+use Rattle.curve.proofs.steps.reduced.Goals as goal
+
+pub returns : goal.returns
+unfolding reduced_of
+returns c =
+    let fv = c.ranges.v in
+    let r : SFits w64 c.near_scaled.result = search rules in
+    to_z-of_z r ∙ rw c.broadening.ensures at (simp to_z-of_z at c.near_scaled.ensures)

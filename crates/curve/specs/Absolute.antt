@@ -40,7 +40,7 @@ wet_high c = lt_z (pos 3000000000) c
 
 -- a reading that is refused with 8 where the ground holds
 abbrev pub unless_over : Bool → Reading → Reading
-unless_over ground r = cond ground OverRange r
+unless_over refused r = cond refused OverRange r
 
 -- the absolute reading of the signal V
 unfoldable pub absolute_of : Sheet → ℤ → Air → Reading

@@ -21,7 +21,7 @@ share_is : (c : After-near_product) → let p = c.args in
 share_is c =
     let fz = c.ranges.z in
     let f2 : SFits w64 c.slope2.result = search rules in
-    rw (slope2_is c) at (simp to_z-of_z at c.near_product.ensures)
+    rw (slope2_is c.before) at (simp to_z-of_z at c.near_product.ensures)
 
 pub near_product-requires : goal.near_product-requires
 near_product-requires c =

@@ -13,7 +13,7 @@ curve_is : (c : After-curve) → c.curve.result ≡ curve_of c.args.s c.args.v c
 curve_is c = let fv = c.ranges.v in let fz = c.ranges.z in simp to_z-of_z at c.curve.ensures
 
 moist_is : (c : After-moist) → c.moist.result ≡ moist_of (curve_of c.args.s c.args.v c.args.z) c.args.a
-moist_is c = let ff : SFits w64 c.curve.result = search rules in rw (curve_is c) at (simp to_z-of_z at c.moist.ensures)
+moist_is c = let ff : SFits w64 c.curve.result = search rules in rw (curve_is c.before) at (simp to_z-of_z at c.moist.ensures)
 
 pub moist-requires : goal.moist-requires
 moist-requires c =

@@ -34,7 +34,7 @@ pub fn put_u32(out: &mut [u8], at: usize, n: u32)
     ensures { out.new ≡ splice out.old at (u32_bytes n) }
 {
     let four = u32_bytes(n);
-    bytes::copy(&four, &mut out[at..]);
+    out[at..at + 4].copy_from_slice(&four);
 }
 
 // Puts words of 32 bits one after the other, from an index on. All other bytes stay.

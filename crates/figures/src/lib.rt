@@ -67,6 +67,7 @@ pub fn put_text(out: &mut [u8], at: usize, text: &[u8]) -> usize
     requires { at + length text.now ≤ length out.old }
     ensures { Puts out.old at text.now out.new result }
 {
-    bytes::copy(text, &mut out[at..]);
-    at + text.len()
+    let past = at + text.len();
+    out[at..past].copy_from_slice(text);
+    past
 }

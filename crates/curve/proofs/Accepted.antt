@@ -5,13 +5,9 @@ use Prim.Native.Nat.{ℕ, ◌≤◌}
 use native.Mathlib.Omega.{arith}
 use lib.IntN.{ℤ, pos, nat_abs}
 use lib.Signed.{◌≤ℤ◌, ◌<ℤ◌, le_z_yes}
-use mathlib.Core.List.{[], ◌∷◌}
 use mathlib.Core.Logic.{◌⊎◌, inl, inr, ⊎_elim}
-use types.Run.{OneOf}
-use denote.Enum.Declared.{tag_of}
 use Rattle.rounding.proofs.Integers.{≤ℤ-trans}
 use Rattle.rounding.proofs.Tests.{lt_false, le_false, false_lt, size_between}
-use Rattle.curve.specs.contracts.Reading.{the_type}
 use Rattle.curve.specs.declared.Sheet.{Sheet}
 use Rattle.curve.specs.declared.Air.{Air}
 use Rattle.curve.specs.declared.Reading.{Reading}
@@ -38,13 +34,9 @@ not_below c p = let z : ◌≡◌ {A = ℕ} 0 1 = cc in omega arith
 pub value_same : {c d : ℤ} → Value c ≡ Value d → c ≡ d
 value_same p = cc
 
--- what the other arm of a match on a value knows: the tag is one of the refusals'
-pub refused : (r : Reading) → OneOf (1 ∷ 2 ∷ []) (tag_of the_type r) → (r ≡ BelowZero) ⊎ (r ≡ OverRange)
-refused (Value c) t = absurd (no t)
-  where
-    no : OneOf (1 ∷ 2 ∷ []) 0 → ⊥
-    no (inl e) = omega arith
-    no (inr e) = omega arith
+-- what the other arm of a match on a value knows: it is one of the refusals
+pub refused : (r : Reading) → ((c : ℤ) → r ≡ Value c → ⊥) → (r ≡ BelowZero) ⊎ (r ≡ OverRange)
+refused (Value c) t = absurd (t c refl)
 refused BelowZero t = inl refl
 refused OverRange t = inr refl
 
@@ -60,8 +52,7 @@ not_below_zero s v a h p =
     not_over true q f p = let z : ◌≡◌ {A = ℕ} 0 1 = cc in omega arith
     not_over false q f p = f p
 
-pub over_range : (s : Sheet) (v : ℤ) (a : Air) {r : Reading} → pos 0 ≤ℤ v → r ≡ absolute_of s v a → OneOf (1 ∷ 2 ∷ []) (tag_of the_type r)
-    → absolute_of s v a ≡ OverRange
+pub over_range : (s : Sheet) (v : ℤ) (a : Air) {r : Reading} → pos 0 ≤ℤ v → r ≡ absolute_of s v a → ((c : ℤ) → r ≡ Value c → ⊥) → absolute_of s v a ≡ OverRange
 over_range s v a {r} h e t = ⊎_elim (λ q. absurd (not_below_zero s v a h (sym e ∙ q))) (λ q. sym e ∙ q) (refused r t)
 
 -- a reading past a ground is a value only where the ground fails

@@ -6,16 +6,12 @@ use Prim.Native.Nat.{ℕ, ◌≤◌}
 use native.Mathlib.Omega.{arith}
 use lib.IntN.{ℤ, pos, ◌-ℤ◌}
 use lib.Signed.{le_z, ◌≤ℤ◌, ◌<ℤ◌, ≤ℤ_refl}
-use mathlib.Core.List.{[], ◌∷◌}
 use borrow.Author.Tests.{lt-leb}
-use types.Run.{OneOf}
-use denote.Enum.Declared.{tag_of}
 use Rattle.rounding.proofs.Integers.{≤ℤ-trans, ≤ℤ-<ℤ-trans, *ℤ-mono, pos_mono, nonnegative, nonnegative_scale, nonpositive, nonpositive_scale}
 use Rattle.rounding.proofs.Nearest.{near_mono, near_nonnegative, near_nonpositive}
 use Rattle.rounding.proofs.Tests.{le_false, false_le}
 use Rattle.curve.specs.declared.Reading.{Reading}
 use Rattle.curve.specs.declared.Reading.TheVariants.{Value, BelowZero, OverRange}
-use Rattle.curve.specs.contracts.Reading.{the_type}
 use Rattle.curve.proofs.Accepted.{not_value, value_same, over_range}
 use Rattle.curve.specs.declared.Sheet.{Sheet}
 use Rattle.curve.specs.declared.Air.{Air}
@@ -82,7 +78,7 @@ module _ (s : Sheet) (a : Air) where
   sought_rises okS okA (Span raw q) n h v w l = absolute_mono s a okS okA _ _ (signal_rises raw q h.2 l)
 
   -- a reading that is no value is over range
-  pub sought_over : (u : Sought) (n : ℕ) → SoughtOk u n → (v : ℕ) {r : Reading} → r ≡ sought_reading s a u v → OneOf (1 ∷ 2 ∷ []) (tag_of the_type r)
+  pub sought_over : (u : Sought) (n : ℕ) → SoughtOk u n → (v : ℕ) {r : Reading} → r ≡ sought_reading s a u v → ((c : ℤ) → r ≡ Value c → ⊥)
       → sought_reading s a u v ≡ OverRange
   sought_over Signal n h v e t = over_range s (pos v) a (nonnegative v) e t
   sought_over (Span raw q) n h v e t = over_range s (signal_of raw q v) a (signal_from_0 raw q v h.2) e t

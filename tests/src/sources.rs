@@ -83,7 +83,8 @@ pub fn files(crates: &Path) -> Files {
         for entry in fs::read_dir(&folder).expect("a folder of sources") {
             let path = entry.expect("a file of the folder").path();
             if path.is_dir() {
-                folders.push(path);
+                // What a check made of the sources stands in `out`.
+                folders.extend(Some(path).filter(|path| !path.ends_with("out")));
             } else if path.extension().is_some_and(|extension| extension == "rt") {
                 let name = path.strip_prefix(crates).expect("a file in the folder");
                 let name = name.to_str().expect("a name in plain letters").to_string();
@@ -127,7 +128,8 @@ impl Sources {
         while i < trees.len() {
             let code = |trees: &[Tree]| Code { module: module.to_string(), trees: trees.to_vec() };
             let (end, item) = match word(trees, i) {
-                "#" => (i + 1, None),
+                // Of an item, or of the whole file.
+                "#" => (i + 1 + usize::from(is(trees, i + 1, "!")), None),
                 "pub" => (i + usize::from(is_group(trees, i + 1, "(")), None),
                 "extern" => (i, None),
                 "const" if is(trees, i + 1, "fn") => (i, None),

@@ -1,5 +1,5 @@
-//! Trees of the proved crates for a measurement, in `target/trial`: each has a crate
-//! `near_alone` more, which lets C call `near`, and one has another `quotient` in
+//! Trees of the proved crates for a measurement, in a folder for what lasts no longer than a
+//! session: each has a crate `near_alone` more, which lets C call `near`, and one has another `quotient` in
 //! `rounding`, of the same contract and proved, with a division and a remainder.
 
 use std::fs;
@@ -27,18 +27,30 @@ fn write(file: &Path, text: &str) {
     fs::write(file, text).expect("a file to write");
 }
 
+/// Copies a folder of crates, without what checks made in `out`.
+fn copy(from: &Path, to: &Path) {
+    fs::create_dir_all(to).expect("a folder to write to");
+    for entry in fs::read_dir(from).expect("a folder to copy") {
+        let path = entry.expect("an entry of the folder").path();
+        let name = path.file_name().expect("a name");
+        if path.is_dir() && name != "out" {
+            copy(&path, &to.join(name));
+        } else if path.is_file() {
+            fs::copy(&path, to.join(name)).expect("a file to copy");
+        }
+    }
+}
+
 /// A tree of the crates as they are, with `near` for C to call.
 pub fn tree(name: &str) -> PathBuf {
-    let tree = root().join("target/trial").join(name);
+    let tree = std::env::temp_dir().join("irga-trial").join(name);
     if tree.exists() {
         fs::remove_dir_all(&tree).expect("the tree of an earlier run");
     }
     fs::create_dir_all(&tree).expect("a folder for the tree");
-    let [from, to] =
-        [root().join("crates"), tree.join("crates")].map(|path| path.display().to_string());
-    run(&tree, "cp", &["-r", &from, &to]);
+    copy(&root().join("crates"), &tree.join("crates"));
     let list = fs::read_to_string(root().join("crates.txt")).expect("the list of crates");
-    write(&tree.join("crates.txt"), &(list + "near_alone: rounding\n"));
+    write(&tree.join("crates.txt"), &(list + "near_alone staticlib: rounding\n"));
     let crate_file = tree.join("crates/near_alone/src/lib.rt");
     write(&crate_file, include_str!("../trials/near_alone.txt"));
     tree
@@ -55,18 +67,17 @@ pub fn two_signs(name: &str) -> PathBuf {
     assert_eq!(text.matches(ONE_SIGN).count(), 1, "quotient is not as the trial has it");
     let body = format!("{{\n{}}}", include_str!("../trials/two_signs.txt"));
     write(&source, &text.replace(ONE_SIGN, &body));
-    let proof = tree.join("crates/rounding/proofs/quotient/Proof.antt");
-    write(&proof, include_str!("../trials/two_signs_proof.txt"));
     tree
 }
 
-/// Proves crates of a tree.
+/// Proves a crate of a tree, and those that it stands on.
 pub fn prove(tree: &Path, crate_name: &str) {
-    run(tree, "rt", &["check", crate_name]);
+    run(&tree.join("crates").join(crate_name), "rt", &["check"]);
 }
 
 /// Proves a library of a tree and makes its archive; its folder.
 pub fn archive(tree: &Path, crate_name: &str) -> PathBuf {
-    run(tree, "rt", &["staticlib", crate_name]);
-    tree.join("target/staticlib")
+    let folder = tree.join("crates").join(crate_name);
+    run(&folder, "rt", &["lib"]);
+    folder.join("out")
 }

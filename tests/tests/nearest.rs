@@ -82,8 +82,8 @@ fn comments_contracts_and_what_near_does_not_call_are_no_signs() {
         (near, "    (2 * m + b) /", "    // m / b, and while it lasts\n    (2 * m + b) /"),
         (
             near,
-            "    ensures { λ r. ⌜ r ≡ nearest a b ⌝ }",
-            "    ensures { λ r. ⌜ r ≡ a / b % 2 ⌝ }",
+            "    ensures { result ≡ nearest a b }",
+            "    ensures { result ≡ a / b % 2 }",
         ),
         (near, "    near(product(a, b), d)", "    near(product(a, b), d) / 1"),
         (signed, "    a * b", "    a / b"),

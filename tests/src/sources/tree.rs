@@ -22,8 +22,10 @@ fn after_plain(text: &str, length: usize) -> &str {
     rest
 }
 
-/// The text after a clause, from before its opening brace.
+/// The text after a clause, from before its opening brace or the name that stands before it.
 fn after_clause(text: &str) -> &str {
+    let named = text.trim_start();
+    let text = named.trim_start_matches(|c: char| c.is_ascii_lowercase() || c.is_ascii_digit() || c == '_');
     assert!(text.trim_start().starts_with('{'), "a clause without braces");
     let mut depth = 0;
     for (i, c) in text.char_indices() {

@@ -1,0 +1,50 @@
+-- `span_on` meets its contract: the checks in their order, and what they leave is what the search asks. Assumes nothing.
+use mathlib.Core.Path.{◌≡◌, sym, ◌∙◌}
+use mathlib.Core.Bool.{true}
+use borrow.Author.Rules.{rules}
+use mir.Facts.{to_z-of_z}
+use mir.Syntax.{w32, w64}
+use mir.Val.{SFits}
+use Rattle.curve.specs.Limits.{within}
+use Rattle.curve.proofs.Within.{range}
+use Rattle.sampling.specs.Sample.{input_within}
+use Rattle.sampling.specs.Span.{spanned_on}
+use Rattle.sampling.proofs.Within.{input_ok}
+use Rattle.sampling.proofs.span_on.Goals as goal
+use Rattle.sampling.proofs.span_on.Goals.{After-wide, Else-not-input_within, Else-not-within}
+
+-- ---- what is known after each check that is passed
+input_at : (c : Else-not-input_within) → input_within c.args.at ≡ true
+input_at c = sym c.input_within.ensures ∙ c.if-not-input_within.false
+
+cylinder_at : (c : Else-not-within) → within 1 3000000000 c.args.cylinder ≡ true
+cylinder_at c = sym c.within.ensures ∙ c.if-not-within.false
+
+raw_is : (c : After-wide) → c.wide.result ≡ c.args.at.raw
+raw_is c =
+    let f : SFits w32 c.args.at.raw = search rules in
+    simp to_z-of_z at c.wide.ensures
+
+pub returns-then-not-input_within : goal.returns-then-not-input_within
+unfolding spanned_on
+returns-then-not-input_within c = rw (sym c.input_within.ensures ∙ c.if-not-input_within.true)
+
+pub returns-then-not-within : goal.returns-then-not-within
+unfolding spanned_on
+returns-then-not-within c = rw (input_at (goal.at.returns-then-not-within c).Else-not-input_within, sym c.within.ensures ∙ c.if-not-within.true)
+
+pub span_setting-requires : goal.span_setting-requires
+span_setting-requires c =
+    let i = input_ok c.args.at (input_at (goal.at.span_setting-requires c).Else-not-input_within) in
+    let r = range 1 3000000000 c.args.cylinder (cylinder_at (goal.at.span_setting-requires c).Else-not-within) in
+    let fq = c.ranges.q in
+    let fw : SFits w64 c.wide.result = search rules in
+    simp to_z-of_z (c.requires.0, rw c.air_of.ensures i.air, rw (raw_is (goal.at.span_setting-requires c).After-wide) i.raw, c.requires.1, r.0, r.1)
+
+pub returns : goal.returns
+unfolding spanned_on
+returns c =
+    let fq = c.ranges.q in
+    let fw : SFits w64 c.wide.result = search rules in
+    rw (input_at (goal.at.returns c).Else-not-input_within, cylinder_at (goal.at.returns c).Else-not-within, c.setting.ensures, simp to_z-of_z at c.span_setting.ensures)
+    (rw (raw_is (goal.at.returns c).After-wide, c.air_of.ensures))

@@ -84,7 +84,7 @@ module _ (d : ℕ) (v : Valid d) where
       (record {
         ordered = omega (arith, two_years_after, at_most_number d v);
         below = λ t w h. early t w (order_back t d w v (omega (arith, positive d v)));
-        inside = λ t w g h. in_term t w (le_back d t v w (omega arith)) (sooner_back t w (omega (arith, positive t w)));
+        inside = λ t w g h. in_term_lem t w (le_back d t v w (omega arith)) (sooner_back t w (omega (arith, positive t w)));
         above = λ t w h. late t w (not_sooner t w (omega (arith, at_most_number t w)));
       })
       (omega arith)

@@ -10,7 +10,7 @@
  * lesson can be prepared in advance. irga_pack makes of a wet value the word that a chart
  * recorder's channel is sent, and irga_unpack takes such a word apart.
  *
- * The library is libhost.a, for x86-64 Linux, which `rt staticlib host` makes. It calls no
+ * The library is libhost.a, for x86-64 Linux, which `tools/build host` makes. It calls no
  * other library:
  *
  *     cc -std=c99 -Iinclude examples/readings.c target/staticlib/libhost.a -o readings

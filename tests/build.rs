@@ -1,5 +1,5 @@
 //! With the feature `library`, links the archive of the proved library. Its folder is the
-//! environment variable IRGA_LIBRARY's, or the one that `rt staticlib host` writes to.
+//! environment variable IRGA_LIBRARY's, or the one that `tools/build host` writes to.
 
 use std::env;
 use std::path::PathBuf;
@@ -24,7 +24,7 @@ fn link() {
         let from = env::current_dir().unwrap_or_default();
         let wanted = from.join(archive);
         eprintln!("the feature `library` needs {}, and it is not there:", wanted.display());
-        eprintln!("make it by `rt staticlib host`, or name its folder in IRGA_LIBRARY");
+        eprintln!("make it by `tools/build host`, or name its folder in IRGA_LIBRARY");
         process::exit(1);
     };
     let folder = archive.parent().unwrap_or(&folder);

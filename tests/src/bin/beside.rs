@@ -95,7 +95,7 @@ fn main() -> ExitCode {
         }
         _ => {
             eprintln!(
-                "beside: give no word, or a folder with a libhost.a, which `rt staticlib host`"
+                "beside: give no word, or a folder with a libhost.a, which `tools/build host`"
             );
             eprintln!("writes to target/staticlib of its tree; not {}", words.join(" "));
             return ExitCode::FAILURE;

@@ -106,7 +106,7 @@ impl Executable {
     fn named(path: Option<OsString>) -> Result<Executable, &'static str> {
         let path = path.filter(|path| !path.is_empty()).ok_or(
             "no program to compare with: set IRGA_PROGRAM to the full path of target/bin/irga, \
-             which `rt check irga` makes",
+             which `tools/build irga` makes",
         )?;
         Ok(Executable { path: PathBuf::from(path) })
     }

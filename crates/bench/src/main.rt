@@ -9,8 +9,8 @@
 ghost use Rattle.std.specs.Prelude.{◌<◌, ◌≤◌, nat_abs};
 
 use curve::{Air, Reading, Sheet};
-use libc::STDOUT_FILENO;
-use rounding::signed::{below_zero, difference, magnitude, product};
+use rounding::signed::{difference, product};
+use std::io;
 
 // PPM of Table 3-1 in tenths, from 1,600 mV on in steps of 20 mV.
 const PPM_TENTHS: [u16; 72] = [
@@ -21,17 +21,18 @@ const PPM_TENTHS: [u16; 72] = [
     6389, 6453, 6517, 6581, 6645, 6710, 6775, 6840,
 ];
 
-fn main() {
-    bench_reading();
-    bench_sheet();
-    io::write_all(STDOUT_FILENO, b"mV document ours difference\n");
+fn main(rt: HostRuntime) -> io::Result<()> {
+    bench_reading(&rt)?;
+    bench_sheet(&rt)?;
+    println!(rt; "mV document ours difference")?;
     for i in 0..72 {
-        row(1600 + 20 * i, PPM_TENTHS[i as usize]);
+        row(&rt, 1600 + 20 * i, PPM_TENTHS[i as usize])?;
     }
+    Ok(())
 }
 
 // V 70,000,000 on the bench sheet: c would be 3,010,000,000.
-fn bench_reading() {
+fn bench_reading(rt: &impl Print) -> io::Result<()> {
     let sheet = Sheet {
         a1: 150000000,
         a2: 5000000,
@@ -44,21 +45,15 @@ fn bench_reading() {
         t: 29815,
         e: 0,
     };
-    io::write_all(STDOUT_FILENO, b"V 70000000: ");
     match curve::absolute(sheet, 70000000, air) {
-        Reading::Value(c) => print_signed(c),
-        Reading::BelowZero => {
-            io::write_all(STDOUT_FILENO, b"refusal 7");
-        }
-        Reading::OverRange => {
-            io::write_all(STDOUT_FILENO, b"refusal 8");
-        }
+        Reading::Value(c) => println!(rt; "V 70000000: {c}"),
+        Reading::BelowZero => println!(rt; "V 70000000: refusal 7"),
+        Reading::OverRange => println!(rt; "V 70000000: refusal 8"),
     }
-    io::write_all(STDOUT_FILENO, b"\n");
 }
 
 // A sheet with A1 0 is outside its limits.
-fn bench_sheet() {
+fn bench_sheet(rt: &impl Print) -> io::Result<()> {
     let sheet = Sheet {
         a1: 0,
         a2: 5000000,
@@ -67,24 +62,18 @@ fn bench_sheet() {
         k: 200000000,
     };
     if curve::limits::sheet_within(sheet) {
-        io::write_all(STDOUT_FILENO, b"A1 0: accepted\n");
+        println!(rt; "A1 0: accepted")
     } else {
-        io::write_all(STDOUT_FILENO, b"A1 0: refusal 2\n");
+        println!(rt; "A1 0: refusal 2")
     }
 }
 
 // A row of the table: a1 0.1420, a2 2.258E-05, a3 1.787E-09, K 19130 mV, T0 40.2 degrees; P 101,300, T = T0, e 0.
-fn row(mv: u16, tenths: u16) {
+fn row(rt: &impl Print, mv: u16, tenths: u16) -> io::Result<()> {
     let document = product(wide(tenths), 100000);
-    print_signed(wide(mv));
-    io::write_all(STDOUT_FILENO, b" ");
-    print_signed(document);
-    io::write_all(STDOUT_FILENO, b" ");
     let ours = table_reading(product(wide(mv), 10000));
-    print_signed(ours);
-    io::write_all(STDOUT_FILENO, b" ");
-    print_signed(difference(ours, document));
-    io::write_all(STDOUT_FILENO, b"\n");
+    let apart = difference(ours, document);
+    println!(rt; "{mv} {document} {ours} {apart}")
 }
 
 // The wet value of a signal on the table's sheet; -1, which no row of the table reads, where it is refused.
@@ -113,11 +102,4 @@ fn wide(x: u16) -> i64
     ensures { nat_abs result < 65536 }
 {
     x as i64
-}
-
-fn print_signed(x: i64) {
-    if below_zero(x) {
-        io::write_all(STDOUT_FILENO, b"-");
-    }
-    io::print_decimal(STDOUT_FILENO, magnitude(x));
 }

@@ -2,13 +2,14 @@
 // session of document 01's "Session file and program", and `stdout` what that chapter says it prints.
 #![tactic(auto)]
 
-use libc::{STDIN_FILENO, STDOUT_FILENO};
+use std::process::ExitCode;
+use streams::{read_full, status_after};
 
-fn main() {
+fn main(rt: HostRuntime) -> ExitCode {
     // One byte more than a session may have, so that a longer one is seen to be longer.
     let mut input = [0u8; 65537];
-    let n = io::read_full(STDIN_FILENO, &mut input);
+    let n = read_full(&mut rt.stdin(), &mut input);
     let mut text = [0u8; 194400];
     let k = printing::print(&input[..n], &mut text);
-    io::write_all(STDOUT_FILENO, &text[..k]);
+    status_after(rt.write_all(&text[..k]))
 }

@@ -7,35 +7,68 @@ ghost use Rattle.std.specs.Prelude.{◌≡◌};
 ghost use Rattle.labpage.specs.Number.{chosen_of, number_said, follows as Number·follows};
 
 use curve::limits::within;
-use libc::{STDERR_FILENO, STDIN_FILENO, STDOUT_FILENO};
+use std::env::FillError;
+use std::io;
+use std::process::ExitCode;
+use std::rt::Env;
+use streams::{read_full, status_after};
 
-fn main() {
+fn main(rt: HostRuntime) -> ExitCode {
     // Where there is no argument, or a longer one, nothing of the word counts.
     let mut word = [0u8; 16];
-    let k = os::arg(1, &mut word);
-    let every = chosen(os::arg_count(), &word[..k]);
+    let k = rt.arg(1, &mut word).unwrap_or(0);
+    let every = chosen(arg_count(&rt), &word[..k]);
     if every == 0 {
-        io::write_all(
-            STDERR_FILENO,
-            b"labpage: the one argument is the number of sample lines under a header, 1 to 999\n",
+        let _ = eprintln!(rt;
+            "labpage: the one argument is the number of sample lines under a header, 1 to 999"
         );
-        return;
+        return ExitCode::SUCCESS;
     }
     // Longer than any session, so that a longer input is seen to be longer.
     let mut input = [0u8; 65537];
-    let n = io::read_full(STDIN_FILENO, &mut input);
+    let n = read_full(&mut rt.stdin(), &mut input);
     let mut text = [0u8; 394054];
     let made = page::page(&input[..n], every, &mut text);
     let status = made.status;
     // The number is within its limits and no page is longer than the buffer, so 12 is the one number left.
     if status != 0 {
-        io::write_all(STDERR_FILENO, b"labpage: the input is not a session file\n");
-        return;
+        let _ = eprintln!(rt; "labpage: the input is not a session file");
+        return ExitCode::SUCCESS;
     }
     let written = made.written;
-    if !io::write_all(STDOUT_FILENO, &text[..written]) {
-        os::fail(b"labpage: the page could not be written");
+    match rt.write_all(&text[..written]) {
+        Ok(()) => ExitCode::SUCCESS,
+        Err(e) => unwritten(&rt, e),
     }
+}
+
+// How many arguments there are, the program's own name among them; of 3 or more it is 3.
+fn arg_count(rt: &impl Env) -> usize {
+    let mut start = [0u8; 1];
+    for i in 0..3 {
+        if let Err(FillError::NotPresent) = rt.arg(i, &mut start) {
+            return i;
+        }
+    }
+    3
+}
+
+// Says why the page could not be written, in the system's words without the number that std puts after them. Where nobody reads the pipe any
+// more there is nothing to say.
+fn unwritten(rt: &(impl Eprint + Alloc), e: io::Error) -> ExitCode {
+    if e.kind() == io::ErrorKind::BrokenPipe {
+        return status_after(Err(e));
+    }
+    let text = e.to_string(rt.alloc());
+    let reason = match &text {
+        Ok(text) => match text.as_str().rsplit_once(" (os error ") {
+            Some((words, _)) => words,
+            None => text.as_str(),
+        },
+        Err(_) => "out of memory",
+    };
+    let _ = eprintln!(rt; "labpage: the page could not be written: {reason}");
+    status_after(Err(e))
 }
 
 // How many sample lines are wanted under a header line, by the count of arguments, the program's own name among them, and the one after it:

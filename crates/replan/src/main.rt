@@ -15,18 +15,19 @@ use entries::entry_of;
 use format::header::{event_count, sheet_count, well_formed};
 use layout::records::{event_at, sheet_at};
 use layout::{Filled, SheetRecord};
-use libc::{STDIN_FILENO, STDOUT_FILENO};
 use reader::first;
 use rules::{Entry, Event};
+use std::process::ExitCode;
+use streams::{read_full, status_after};
 use validation::is_packed;
 
-fn main() {
+fn main(rt: HostRuntime) -> ExitCode {
     let mut input = [0u8; 65537];
-    let n = io::read_full(STDIN_FILENO, &mut input);
+    let n = read_full(&mut rt.stdin(), &mut input);
     let mut out = [0u8; 65200];
     let done = replan(&input[..n], &mut out);
     let written = done.written;
-    io::write_all(STDOUT_FILENO, &out[..written]);
+    status_after(rt.write_all(&out[..written]))
 }
 
 // Puts a file that the writer makes at the start of a lent buffer: 0, or 12, 11 or 15, which leaves the buffer as it was.

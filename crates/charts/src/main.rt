@@ -14,12 +14,11 @@ use counting::{Integration, limit_of};
 use engine::step;
 use layout::SheetRecord;
 use layout::records::put_sheet;
-use libc::STDOUT_FILENO;
-use rounding::signed::{below_zero, magnitude};
 use rules::{Answer, Entry, Event, State, fresh_state};
 use sampling::Measurement;
+use std::io;
 
-fn main() {
+fn main(rt: HostRuntime) -> io::Result<()> {
     let mut sheets = [0u8; 24];
     put_sheet(
         &mut sheets,
@@ -33,53 +32,47 @@ fn main() {
             rest: 0,
         },
     );
-    tables(&sheets);
+    tables(&rt, &sheets)
 }
 
-fn tables(sheets: &[u8]) {
-    io::write_all(STDOUT_FILENO, b"kind | samples | area | integration\n");
-    limits(sheets);
-    io::write_all(
-        STDOUT_FILENO,
-        b"before | event | answer | integration | area after 600001 samples more\n",
-    );
-    starts(sheets, b"no sheet", fresh_state(), 0);
-    starts(sheets, b"idle", loaded(sheets), 0);
-    events(sheets, b"kind 7, 3 samples", Event::Start);
-    events(sheets, b"kind 10, 3 samples", Event::StartShort);
+fn tables(rt: &impl Print, sheets: &[u8]) -> io::Result<()> {
+    println!(rt; "kind | samples | area | integration")?;
+    limits(rt, sheets)?;
+    println!(rt; "before | event | answer | integration | area after 600001 samples more")?;
+    starts(rt, sheets, "no sheet", fresh_state(), 0)?;
+    starts(rt, sheets, "idle", loaded(sheets), 0)?;
+    events(rt, sheets, "kind 7, 3 samples", Event::Start)?;
+    events(rt, sheets, "kind 10, 3 samples", Event::StartShort)?;
     let closed = sampled(sheets, started(sheets, Event::StartShort), 0, 6000);
-    starts(sheets, b"kind 10, 6000 samples", closed, 6000);
-    ends(sheets, b"kind 10, 6000 samples", closed, 6000);
+    starts(rt, sheets, "kind 10, 6000 samples", closed, 6000)?;
+    ends(rt, sheets, "kind 10, 6000 samples", closed, 6000)?;
     // More than a short one can count: that n must not stay.
     let longer = sampled(sheets, started(sheets, Event::Start), 0, 6001);
-    starts(sheets, b"kind 7, 6001 samples", longer, 6001);
+    starts(rt, sheets, "kind 7, 6001 samples", longer, 6001)
 }
 
 // One sample short of each limit, at it and beyond it; what closes a short one does not close a long one.
-fn limits(sheets: &[u8]) {
-    limit(sheets, 10, Event::StartShort, 5999);
-    limit(sheets, 10, Event::StartShort, 6000);
-    limit(sheets, 10, Event::StartShort, 6001);
-    limit(sheets, 7, Event::Start, 5999);
-    limit(sheets, 7, Event::Start, 6000);
-    limit(sheets, 7, Event::Start, 6001);
-    limit(sheets, 7, Event::Start, 599999);
-    limit(sheets, 7, Event::Start, 600000);
-    limit(sheets, 7, Event::Start, 600001);
+fn limits(rt: &impl Print, sheets: &[u8]) -> io::Result<()> {
+    limit(rt, sheets, 10, Event::StartShort, 5999)?;
+    limit(rt, sheets, 10, Event::StartShort, 6000)?;
+    limit(rt, sheets, 10, Event::StartShort, 6001)?;
+    limit(rt, sheets, 7, Event::Start, 5999)?;
+    limit(rt, sheets, 7, Event::Start, 6000)?;
+    limit(rt, sheets, 7, Event::Start, 6001)?;
+    limit(rt, sheets, 7, Event::Start, 599999)?;
+    limit(rt, sheets, 7, Event::Start, 600000)?;
+    limit(rt, sheets, 7, Event::Start, 600001)
 }
 
-fn limit(sheets: &[u8], kind: u64, start: Event, samples: u32)
+fn limit(rt: &impl Print, sheets: &[u8], kind: u64, start: Event, samples: u32) -> io::Result<()>
     requires { samples ≤ 1000000 }
 {
     let st = sampled(sheets, started(sheets, start), 0, samples);
-    io::print_decimal(STDOUT_FILENO, kind);
-    io::write_all(STDOUT_FILENO, b" | ");
-    io::print_decimal(STDOUT_FILENO, samples as u64);
-    io::write_all(STDOUT_FILENO, b" | ");
-    print_area(sheets, st);
-    io::write_all(STDOUT_FILENO, b" | ");
-    print_integration(st);
-    io::write_all(STDOUT_FILENO, b"\n");
+    print!(rt; "{kind} | {samples} | ")?;
+    print_area(rt, sheets, st)?;
+    print!(rt; " | ")?;
+    print_integration(rt, st)?;
+    print!(rt; "\n")
 }
 
 // What may stand before an event: a loaded sheet; a start of this kind too.
@@ -98,83 +91,86 @@ fn started(sheets: &[u8], start: Event) -> State {
 }
 
 // Both starts, what closes a running one, what discards it, and what leaves it.
-fn events(sheets: &[u8], before: &[u8], start: Event) {
+fn events(rt: &impl Print, sheets: &[u8], before: &str, start: Event) -> io::Result<()> {
     let st = sampled(sheets, started(sheets, start), 0, 3);
-    starts(sheets, before, st, 3);
-    ends(sheets, before, st, 3);
-    row(sheets, before, st, 3, b"refused sample", sample(150000001));
-    row(sheets, before, st, 3, b"malformed 6", Entry::Malformed(6));
-    row(sheets, before, st, 3, b"malformed 10", Entry::Malformed(10));
+    starts(rt, sheets, before, st, 3)?;
+    ends(rt, sheets, before, st, 3)?;
     row(
+        rt,
         sheets,
         before,
         st,
         3,
-        b"zero",
-        Entry::Known(Event::Zero { raw: 0 }),
-    );
+        "refused sample",
+        sample(150000001),
+    )?;
+    row(
+        rt,
+        sheets,
+        before,
+        st,
+        3,
+        "malformed 6",
+        Entry::Malformed(6),
+    )?;
+    row(
+        rt,
+        sheets,
+        before,
+        st,
+        3,
+        "malformed 10",
+        Entry::Malformed(10),
+    )?;
+    let zero = Entry::Known(Event::Zero { raw: 0 });
+    row(rt, sheets, before, st, 3, "zero", zero)
 }
 
-fn starts(sheets: &[u8], before: &[u8], st: State, samples: u32)
+fn starts(rt: &impl Print, sheets: &[u8], before: &str, st: State, samples: u32) -> io::Result<()>
     requires { samples ≤ 10000 }
 {
-    row(
-        sheets,
-        before,
-        st,
-        samples,
-        b"kind 7",
-        Entry::Known(Event::Start),
-    );
-    row(
-        sheets,
-        before,
-        st,
-        samples,
-        b"kind 10",
-        Entry::Known(Event::StartShort),
-    );
+    let long = Entry::Known(Event::Start);
+    row(rt, sheets, before, st, samples, "kind 7", long)?;
+    let short = Entry::Known(Event::StartShort);
+    row(rt, sheets, before, st, samples, "kind 10", short)
 }
 
 // A stop, and the area, which leaves it.
-fn ends(sheets: &[u8], before: &[u8], st: State, samples: u32)
+fn ends(rt: &impl Print, sheets: &[u8], before: &str, st: State, samples: u32) -> io::Result<()>
     requires { samples ≤ 10000 }
 {
-    row(
-        sheets,
-        before,
-        st,
-        samples,
-        b"stop",
-        Entry::Known(Event::Stop),
-    );
-    row(
-        sheets,
-        before,
-        st,
-        samples,
-        b"area",
-        Entry::Known(Event::Area),
-    );
+    let stop = Entry::Known(Event::Stop);
+    row(rt, sheets, before, st, samples, "stop", stop)?;
+    let area = Entry::Known(Event::Area);
+    row(rt, sheets, before, st, samples, "area", area)
 }
 
 // An entry at a state that so many samples led to.
-fn row(sheets: &[u8], before: &[u8], st: State, samples: u32, label: &[u8], entry: Entry)
+fn row(
+    rt: &impl Print,
+    sheets: &[u8],
+    before: &str,
+    st: State,
+    samples: u32,
+    label: &str,
+    entry: Entry,
+) -> io::Result<()>
     requires { samples ≤ 10000 }
 {
     let next = step(sheets, st, entry);
     let answer = next.answer;
     let after = next.state;
-    io::write_all(STDOUT_FILENO, before);
-    io::write_all(STDOUT_FILENO, b" | ");
-    io::write_all(STDOUT_FILENO, label);
-    io::write_all(STDOUT_FILENO, b" | ");
-    print_answer(answer);
-    io::write_all(STDOUT_FILENO, b" | ");
-    print_integration(after);
-    io::write_all(STDOUT_FILENO, b" | ");
-    print_area(sheets, sampled(sheets, after, samples, samples + 600001));
-    io::write_all(STDOUT_FILENO, b"\n");
+    print!(rt; "{before} | {label} | ")?;
+    print_answer(rt, answer)?;
+    print!(rt; " | ")?;
+    print_integration(rt, after)?;
+    print!(rt; " | ")?;
+    print_area(
+        rt,
+        sheets,
+        sampled(sheets, after, samples, samples + 600001),
+    )?;
+    print!(rt; "\n")
 }
 
 // The state after the samples beyond `from`, up to `to`.
@@ -205,48 +201,35 @@ fn sample(raw: i32) -> Entry {
     Entry::Known(Event::Sample { at })
 }
 
-fn print_area(sheets: &[u8], st: State) {
+fn print_area(rt: &impl Print, sheets: &[u8], st: State) -> io::Result<()> {
     let next = step(sheets, st, Entry::Known(Event::Area));
     let answer = next.answer;
-    print_answer(answer);
+    print_answer(rt, answer)
 }
 
 // n and area, or the number of the refusal; other answers are only said to be accepted.
-fn print_answer(a: Answer) {
+fn print_answer(rt: &impl Print, a: Answer) -> io::Result<()> {
     match a {
-        Answer::Area { n, area } => {
-            io::print_decimal(STDOUT_FILENO, n);
-            io::write_all(STDOUT_FILENO, b" ");
-            if below_zero(area) {
-                io::write_all(STDOUT_FILENO, b"-");
-            }
-            io::print_decimal(STDOUT_FILENO, magnitude(area));
-        }
-        Answer::Refused(number) => {
-            io::write_all(STDOUT_FILENO, b"refused ");
-            io::print_decimal(STDOUT_FILENO, number as u64);
-        }
-        Answer::Done | Answer::Zeroed(_) | Answer::Spanned(_) | Answer::Reading { .. } => {
-            io::write_all(STDOUT_FILENO, b"accepted");
-        }
+        Answer::Area { n, area } => print!(rt; "{n} {area}"),
+        Answer::Refused(number) => print!(rt; "refused {number}"),
+        Answer::Done | Answer::Zeroed(_) | Answer::Spanned(_) | Answer::Reading { .. } => print!(rt;
+            "accepted"
+        ),
     }
 }
 
-fn print_integration(st: State) {
+fn print_integration(rt: &impl Print, st: State) -> io::Result<()> {
     let i = st.integration;
     match i {
-        Integration::Idle => {
-            io::write_all(STDOUT_FILENO, b"idle");
-        }
+        Integration::Idle => print!(rt; "idle"),
         Integration::Running(chart, t) => {
-            io::write_all(STDOUT_FILENO, b"running ");
-            io::print_decimal(STDOUT_FILENO, t.n);
-            io::write_all(STDOUT_FILENO, b" of ");
-            io::print_decimal(STDOUT_FILENO, limit_of(chart));
+            let n = t.n;
+            let limit = limit_of(chart);
+            print!(rt; "running {n} of {limit}")
         }
         Integration::Closed(t) => {
-            io::write_all(STDOUT_FILENO, b"closed ");
-            io::print_decimal(STDOUT_FILENO, t.n);
+            let n = t.n;
+            print!(rt; "closed {n}")
         }
     }
 }

@@ -5,7 +5,6 @@ use mathlib.Core.Path.{◌≡◌, refl, sym, subst}
 use Prim.Native.Nat.{ℕ}
 use lib.Dec.{T, eqb}
 use Rattle.rules.specs.declared.State.{State}
-use Rattle.rules.specs.declared.Event.{Event}
 use Rattle.rules.specs.declared.Entry.{Entry}
 use Rattle.rules.specs.declared.Entry.TheVariants.{Known, Malformed}
 use Rattle.rules.specs.declared.Event.TheVariants.{Load, Zero, Span, Reference, Absolute, Sample, Start, Stop, Area, StartShort}

@@ -140,3 +140,4 @@ pub keeps_tally : {i : Integration} {ws : List ℤ} {xs : List Fraction} {b : Bo
     → (t ≡ tally_of ws) × EachWithin ws xs
 keeps_tally (running e r l) in_running = (refl, e)
 keeps_tally (closed e r l) in_closed = (refl, e)
+keeps_tally idle x = elim x [ ]

@@ -1,0 +1,73 @@
+-- `text::put_line` meets its contract: seven pieces, one after the other, whose bounds leave each its room. Assumes nothing.
+use Prim.Native.Nat.{◌+◌, ◌≤◌}
+use native.Mathlib.Omega.{arith}
+use mathlib.Core.Path.{◌≡◌}
+use lib.ListN.{length, length-append}
+use mir.Syntax.{w64}
+use mir.Val.{to_z, of_z}
+use borrow.Author.Rules.{rules}
+use Rattle.layout.proofs.Lent.{puts_both}
+use Rattle.text.specs.Line.{decimal, signed_decimal, line_of, line_room}
+use Rattle.text.proofs.Decimal.{at_most, line_fits}
+use Rattle.text.proofs.put_line.Goals as goal
+use Rattle.text.proofs.put_line.Goals.{After-put_decimal-at, After-put_spaced-at-3}
+
+-- x and y, which are of 64 bits
+kept_x : (s : After-put_decimal-at) → to_z w64 (of_z w64 s.args.a.x) ≡ s.args.a.x
+kept_x s = search rules
+
+kept_y : (s : After-put_decimal-at) → to_z w64 (of_z w64 s.args.a.y) ≡ s.args.a.y
+kept_y s = search rules
+
+-- the line's length, its room, and as a sum
+fits : (s : After-put_decimal-at) → length (line_of s.args.ordinal s.args.a) ≤ line_room
+fits s = line_fits s.args.ordinal s.args.a (search rules) (search rules) (search rules) (search rules) (search rules) (search rules)
+
+room : (s : After-put_decimal-at) → s.args.at + length (line_of s.args.ordinal s.args.a) ≤ length s.args.out.now
+room s = omega (arith, fits s)
+
+sum : (s : After-put_decimal-at) → let a = s.args.a in s.args.at + (length (decimal s.args.ordinal) + length (decimal a.kind) + length (decimal a.refusal)
+    + length (decimal a.m) + length (signed_decimal (to_z w64 (of_z w64 a.x))) + length (signed_decimal (to_z w64 (of_z w64 a.y))) + 6)
+    ≤ length s.args.out.now
+unfolding line_of
+sum s = rw (kept_x s, kept_y s) (let h = simp length-append at (room s) in omega arith)
+
+-- where x goes
+half : (c : After-put_spaced-at-3) → let a = c.args.a in
+    (c.put_spaced-at-3.result ≡ c.args.at + (length (decimal c.args.ordinal) + length (decimal a.kind) + length (decimal a.refusal)
+    + length (decimal a.m) + 3)) × (length c.put_spaced-at-3.new.out ≡ length c.args.out.now)
+half c = (omega arith, omega arith)
+
+pub put_decimal-at-requires : goal.put_decimal-at-requires
+unfolding decimal
+put_decimal-at-requires c = omega (arith, at_most 20 9 c.args.ordinal (omega arith))
+
+pub put_spaced-at-requires : goal.put_spaced-at-requires
+put_spaced-at-requires c = omega (arith, sum (goal.at.put_spaced-at-requires c).After-put_decimal-at)
+
+pub put_spaced-at-requires-2 : goal.put_spaced-at-requires-2
+put_spaced-at-requires-2 c = omega (arith, sum (goal.at.put_spaced-at-requires-2 c).After-put_decimal-at)
+
+pub put_spaced-at-requires-3 : goal.put_spaced-at-requires-3
+put_spaced-at-requires-3 c = omega (arith, sum (goal.at.put_spaced-at-requires-3 c).After-put_decimal-at)
+
+pub put_spaced_signed-at-requires : goal.put_spaced_signed-at-requires
+put_spaced_signed-at-requires c = omega (arith, sum (goal.at.put_spaced_signed-at-requires c).After-put_decimal-at)
+
+pub put_spaced_signed-at-requires-2 : goal.put_spaced_signed-at-requires-2
+put_spaced_signed-at-requires-2 c =
+    let s = goal.at.put_spaced_signed-at-requires-2 c in
+    omega (arith, sum s.After-put_decimal-at, half s.After-put_spaced-at-3)
+
+pub put_byte-requires : goal.put_byte-requires
+put_byte-requires c = let s = goal.at.put_byte-requires c in omega (arith, sum s.After-put_decimal-at, half s.After-put_spaced-at-3)
+
+pub returns : goal.returns
+unfolding line_of
+returns c =
+    let s = (goal.at.returns c).After-put_decimal-at in
+    let p = puts_both c.put_decimal-at.ensures c.put_spaced-at.ensures in
+    let p = puts_both (puts_both p c.put_spaced-at-2.ensures) c.put_spaced-at-3.ensures in
+    let p = puts_both p (rw (kept_x s) at c.put_spaced_signed-at.ensures) in
+    let p = puts_both (puts_both p (rw (kept_y s) at c.put_spaced_signed-at-2.ensures)) c.put_byte.ensures in
+    record { puts = p; upper_bound = omega (arith, p.ends, fits s) }

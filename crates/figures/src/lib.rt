@@ -67,7 +67,6 @@ pub fn put_text(out: &mut [u8], at: usize, text: &[u8]) -> usize
     requires { at + length text.now ≤ length out.old }
     ensures { Puts out.old at text.now out.new result }
 {
-    let past = at + text.len();
-    out[at..past].copy_from_slice(text);
-    past
+    out[at..at + text.len()].copy_from_slice(text);
+    at + text.len()
 }

@@ -122,12 +122,15 @@ fn the_trial_has_two_signs_and_is_proved() {
 }
 
 /// Every place in the crates that divides, with its signs. None of them but `quotient` rounds: they
-/// test e by P / 10, halve the stretch of a search, take numbers, records and digits apart,
+/// take dates apart, test e by P / 10, halve the stretch of a search, take numbers, records and digits apart,
 /// count the header lines of a page, and let the signals of `charts` flicker.
 /// A new one is to be looked at, and put here.
 #[test]
 fn nothing_else_rounds() {
     let places = [
+        ("calendar::leap", 3),
+        ("calendar::next", 4),
+        ("calendar::valid", 4),
         ("charts::raw_of", 1),
         ("curve::limits::air_within", 1),
         ("fields::high_word", 1),

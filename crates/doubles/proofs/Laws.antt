@@ -1,19 +1,16 @@
 -- Whole numbers below 2^53 in size are doubles exactly, and the numbers of a sample's record, or an area's, are such. No sample is
 -- answered with an area, and no area event with a reading. Assumes nothing.
-use Prim.Native.Nat.{ℕ, suc, ◌^◌, ◌<◌, ◌≤◌}
+use Prim.Native.Nat.{ℕ, suc, ◌^◌, ◌<◌}
 use native.Mathlib.Omega.{arith}
 use mathlib.Core.Bool.{Bool, true, false, ◌&&◌, cond}
 use mathlib.Core.List.{List}
 use mathlib.Core.Path.{◌≡◌, subst}
 use borrow.Author.Tests.{ltb-true}
-use lib.Dec.{T, leb, eqb}
+use lib.Dec.{leb, eqb}
 use lib.IntN.{ℤ, pos, negsuc, nat_abs}
 use lib.ListN.{length}
-use lib.Ieee.{Float, binary64, of_int, in_float}
+use lib.Ieee.{Float, binary64, of_int}
 use lib.Ieee.Back.{round_whole}
-use mir.Facts.{to_z-of_z, yes_leb, yes_ltb}
-use mir.Syntax.{w64}
-use mir.Val.{SFits, to_z, of_z}
 use Rattle.curve.proofs.Within.{both}
 use Rattle.layout.specs.declared.AnswerRecord.{AnswerRecord}
 use Rattle.layout.specs.Records.{answer_at}
@@ -24,16 +21,7 @@ use Rattle.doubles.specs.Doubles.{double_of, Whole, below_limit, doubles_of, acc
 pub below : (z : ℤ) → below_limit z ≡ true → nat_abs z < 2 ^ 53
 below z e = omega (arith, ltb-true (nat_abs z) _ e)
 
--- what a cast asks
-in_float_lem : (z : ℤ) → below_limit z ≡ true → T (in_float binary64 z)
-unfolding in_float
-in_float_lem (pos n) e = let h : n ≤ 2 ^ 53 = omega (arith, below (pos n) e) in yes_leb h
-in_float_lem (negsuc n) e = let h : n < 2 ^ 53 = omega (arith, below (negsuc n) e) in yes_ltb h
-
-pub cast : (z : ℤ) → SFits w64 z → below_limit z ≡ true → T (in_float binary64 (to_z w64 (of_z w64 z)))
-cast z f e = rw (to_z-of_z f) (in_float_lem z e)
-
--- and what it gives
+-- what a cast gives
 pub is_whole : (z : ℤ) → nat_abs z < 2 ^ 53 → Whole (double_of z) z
 unfolding of_int
 is_whole (pos n) h = round_whole binary64 false n (omega arith)

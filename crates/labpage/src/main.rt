@@ -53,22 +53,26 @@ fn arg_count(rt: &impl Env) -> usize {
     3
 }
 
-// Says why the page could not be written, in the system's words without the number that std puts after them. Where nobody reads the pipe any
-// more there is nothing to say.
+// Says why the page could not be written. Where nobody reads the pipe any more there is nothing to say.
 fn unwritten(rt: &(impl Eprint + Alloc), e: io::Error) -> ExitCode {
-    if e.kind() == io::ErrorKind::BrokenPipe {
-        return status_after(Err(e));
+    if e.kind() != io::ErrorKind::BrokenPipe {
+        let _ = say_why(rt, &e);
     }
-    let text = e.to_string(rt.alloc());
-    let reason = match &text {
-        Ok(text) => match text.as_str().rsplit_once(" (os error ") {
-            Some((words, _)) => words,
-            None => text.as_str(),
-        },
-        Err(_) => "out of memory",
-    };
-    let _ = eprintln!(rt; "labpage: the page could not be written: {reason}");
     status_after(Err(e))
+}
+
+fn say_why(rt: &(impl Eprint + Alloc), e: &io::Error) -> io::Result<()> {
+    let text = format!(in rt.alloc(); "{e}")?;
+    let why = words_of(text.as_str());
+    eprintln!(rt; "labpage: the page could not be written: {why}")
+}
+
+// The system's words for an error, without the number that std puts after them.
+fn words_of(text: &str) -> &str {
+    match text.rsplit_once(" (os error ") {
+        Some((words, _)) => words,
+        None => text,
+    }
 }
 
 // How many sample lines are wanted under a header line, by the count of arguments, the program's own name among them, and the one after it:

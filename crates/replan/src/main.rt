@@ -22,10 +22,14 @@ use streams::{read_full, status_after};
 use validation::is_packed;
 
 fn main(rt: HostRuntime) -> ExitCode {
-    let mut input = [0u8; 65537];
-    let n = read_full(&mut rt.stdin(), &mut input);
+    // On the heap, so that the writer's arrays and the other buffer have room on a small stack.
+    let Ok(mut input) = vec![in rt.alloc(); 0u8; 65537] else {
+        let _ = eprintln!(rt; "replan: out of memory");
+        return ExitCode::FAILURE;
+    };
+    let n = read_full(&mut rt.stdin(), input.as_mut_slice());
     let mut out = [0u8; 65200];
-    let done = replan(&input[..n], &mut out);
+    let done = replan(&input.as_slice()[..n], &mut out);
     let written = done.written;
     status_after(rt.write_all(&out[..written]))
 }

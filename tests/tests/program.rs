@@ -63,12 +63,12 @@ fn a_full_device_leaves_the_status_0() {
 }
 
 #[test]
-fn a_pipe_that_nobody_reads_ends_the_program_by_a_signal() {
+fn a_pipe_that_nobody_reads_ends_the_program_as_the_signal_does() {
     let status = status_after_the_lesson(Stdio::piped());
-    assert_eq!((status.code(), status.signal()), (None, Some(BROKEN_PIPE)));
+    assert_eq!((status.code(), status.signal()), (Some(128 + BROKEN_PIPE), None));
 }
 
-/// A shell adds 128 to the number of the signal.
+/// A shell adds 128 to the number of the signal. The program's runtime passes the signal over, and it ends with that number itself.
 #[test]
 fn readme_says_how_it_ends() {
     let page = in_one_line(include_str!("../../README.md"));

@@ -69,11 +69,11 @@ fn the_longest_plan_and_the_ends() {
     assert!(assert_planned_again(&Session::default().to_bytes()));
 }
 
-/// What README says of the program's stack, its buffers and the writer's arrays together.
+/// What README says of the program's stack, its output's buffer and the writer's arrays together; what it reads is on the heap.
 #[test]
 fn the_longest_plan_in_little_stack() {
     let kibibytes = "256";
-    let says = format!("all in {kibibytes} KiB of stack, its two buffers included");
+    let says = format!("all in {kibibytes} KiB of stack and the 65,537 bytes that it reads into");
     assert!(in_one_line(include_str!("../../README.md")).contains(&says), "{says}");
     let lesson = lesson::longest();
     let path = Path::new(env!("CARGO_TARGET_TMPDIR")).join("longest.session");

@@ -17,21 +17,26 @@ use layout::records::{event_at, sheet_at};
 use layout::{Filled, SheetRecord};
 use reader::first;
 use rules::{Entry, Event};
+use std::io;
+use std::io::Read;
 use std::process::ExitCode;
 use streams::{read_full, status_after};
 use validation::is_packed;
 
 fn main(rt: HostRuntime) -> ExitCode {
-    // On the heap, so that the writer's arrays and the other buffer have room on a small stack.
-    let Ok(mut input) = vec![in rt.alloc(); 0u8; 65537] else {
-        let _ = eprintln!(rt; "replan: out of memory");
-        return ExitCode::FAILURE;
-    };
-    let n = read_full(&mut rt.stdin(), input.as_mut_slice());
+    status_after(plan_again(&rt, &mut rt.stdin()))
+}
+
+// Reads a file, plans it again and writes what comes of it.
+fn plan_again(rt: &(impl Print + Alloc), input: &mut impl Read) -> io::Result<()> {
+    // On the heap, so that the writer's arrays and the other buffer have room on a small stack. Where there is no memory for it nothing comes out, as
+    // of an input that cannot be read.
+    let mut bytes = vec![in rt.alloc(); 0u8; 65537]?;
+    let n = read_full(input, bytes.as_mut_slice());
     let mut out = [0u8; 65200];
-    let done = replan(&input.as_slice()[..n], &mut out);
+    let done = replan(&bytes.as_slice()[..n], &mut out);
     let written = done.written;
-    status_after(rt.write_all(&out[..written]))
+    rt.write_all(&out[..written])
 }
 
 // Puts a file that the writer makes at the start of a lent buffer: 0, or 12, 11 or 15, which leaves the buffer as it was.

@@ -24,7 +24,6 @@ fn near_divides_once() {
         code: [
             "rounding::near",
             "rounding::quotient",
-            "rounding::signed::magnitude",
             "rounding::signed::negative",
             "rounding::signed::positive",
         ]
@@ -51,12 +50,10 @@ fn changed(file: &str, old: &str, new: &str) -> Files {
 #[test]
 fn a_second_sign_or_a_loop_is_found() {
     let (near, signed) = ("rounding/src/lib.rt", "rounding/src/signed.rt");
-    let magnitude = "if a < 0 { (!a) as u64 + 1 }";
     for (file, old, new) in [
-        // A sign more in each of the five functions.
+        // A sign more in each of the four functions.
         (near, "    if a < 0 {\n", "    if a / 2 < 0 {\n"),
         (near, "    (2 * m + b) /", "    (2 * m + b) % 2 /"),
-        (signed, magnitude, "if a < 0 { (!a) as u64 / 1 + 1 }"),
         (signed, "    0 - (m as i64)", "    0 - (m as i64) % 3"),
         (signed, "    m as i64\n", "    m as i64 / 1\n"),
         // One that stands in another crate, reached by its whole path.
@@ -66,7 +63,7 @@ fn a_second_sign_or_a_loop_is_found() {
         (near, "negative(quotient(", "negative(quotient(quotient(m, b), b) + quotient("),
         // Loops, and functions that call themselves.
         (near, "    (2 * m + b) /", "    while m < b { m += 1; }\n    (2 * m + b) /"),
-        (signed, magnitude, "loop { break; } if a < 0 { (!a) as u64 + 1 }"),
+        (signed, "    m as i64\n", "    loop { break; }\n    m as i64\n"),
         (signed, "    m as i64\n", "    for i in 0..m { negative(i); }\n    m as i64\n"),
         (near, "    (2 * m + b) /", "    (2 * quotient(m, b) + b) /"),
         (signed, "    0 - (m as i64)", "    0 - crate::near(m as i64, 2)"),
@@ -80,11 +77,7 @@ fn comments_contracts_and_what_near_does_not_call_are_no_signs() {
     let (near, signed) = ("rounding/src/lib.rt", "rounding/src/signed.rt");
     for (file, old, new) in [
         (near, "    (2 * m + b) /", "    // m / b, and while it lasts\n    (2 * m + b) /"),
-        (
-            near,
-            "    ensures { result ≡ nearest a b }",
-            "    ensures { result ≡ a / b % 2 }",
-        ),
+        (near, "    ensures { result ≡ nearest a b }", "    ensures { result ≡ a / b % 2 }"),
         (near, "    near(product(a, b), d)", "    near(product(a, b), d) / 1"),
         (signed, "    a * b", "    a / b"),
     ] {
@@ -94,7 +87,15 @@ fn comments_contracts_and_what_near_does_not_call_are_no_signs() {
 
 #[test]
 fn a_name_from_elsewhere_is_not_passed_over() {
-    for call in ["m.div_euclid(b)", "bytes::half(m)", "halved(m)", "halved!(m)"] {
+    for call in [
+        "m.div_euclid(b)",
+        "m.div_ceil(b)",
+        "bytes::half(m)",
+        "halved(m)",
+        "halved!(m)",
+        "negative(m)?",
+        "(|m: u64| m % 7)",
+    ] {
         let files = changed("rounding/src/lib.rt", "    (2 * m + b) /", &format!("    {call} /"));
         assert!(Sources::of(&files).holding("rounding::near").is_err(), "passed over: {call}");
     }
@@ -121,10 +122,10 @@ fn the_trial_has_two_signs_and_is_proved() {
     trial::prove(&tree, "near_alone");
 }
 
-/// Every place in the crates that divides, with its signs. None of them but `quotient` rounds: they
-/// take dates apart, test e by P / 10, halve the stretch of a search, take numbers, records and digits apart,
-/// count the header lines of a page, and let the signals of `charts` flicker.
-/// A new one is to be looked at, and put here.
+/// Every place in the crates that divides, with its signs; `div_ceil` counts as one. None of them
+/// but `quotient` rounds to the nearest: they take dates apart, test e by P / 10, halve the stretch
+/// of a search, take numbers, records and digits apart, count the header lines of a page, and let
+/// the signals of `charts` flicker. A new one is to be looked at, and put here.
 #[test]
 fn nothing_else_rounds() {
     let places = [
@@ -133,10 +134,6 @@ fn nothing_else_rounds() {
         ("calendar::valid", 4),
         ("charts::raw_of", 1),
         ("curve::limits::air_within", 1),
-        ("fields::high_word", 1),
-        ("fields::low", 1),
-        ("fields::low_word", 1),
-        ("fields::u32_bytes", 3),
         ("figures::put_hundredths", 1),
         ("figures::put_pointed", 4),
         ("layout::records::event_at", 1),
@@ -150,7 +147,6 @@ fn nothing_else_rounds() {
         ("sheets::find_sheet", 1),
         ("text::digits", 1),
         ("text::put_decimal", 2),
-        ("validation::all_right", 1),
         ("validation::is_packed", 2),
     ];
     assert_eq!(Sources::of(&crates()).dividing(), places.into());

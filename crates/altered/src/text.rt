@@ -1,44 +1,89 @@
-// What the program prints of a case, of a stored finding and of an answer.
-use reference::Found;
+// What the program prints of a finding, of what stands stored, and of an answer.
+use refusals::Refusal;
 use rules::Answer;
-use sampling::Sampled;
-use std::io;
-use store::Stored;
+use sampling::SampleValues;
+use std::fmt;
+use store::Finding;
 
-pub(crate) fn print_stored(rt: &impl Print, stored: Stored) -> io::Result<()> {
-    match stored {
-        Stored::Empty => print!(rt; "empty"),
-        Stored::At { p, t, r } => print!(rt; "{p} {t} {r}"),
-        Stored::Nothing { p, t } => print!(rt; "{p} {t} nothing"),
+// The signal that was found, or nothing.
+#[derive(Clone, Copy)]
+pub(crate) struct FoundSignal(pub(crate) Option<u64>);
+
+impl fmt::Display for FoundSignal {
+    fn fmt<W: fmt::Write>(&self, f: &mut fmt::Formatter<W>) -> fmt::Result {
+        match self.0 {
+            Some(r) => write!(f, "{r}"),
+            None => f.write_str("nothing"),
+        }
     }
 }
 
-pub(crate) fn print_case(rt: &impl Print, k: u64, found: Found, raw: i32) -> io::Result<()> {
-    match found {
-        Found::At(r) => print!(rt; "{k} {r} {raw} | "),
-        Found::Nothing => print!(rt; "{k} nothing {raw} | "),
-    }
-}
+// What stands stored: P and T, and what was found there.
+#[derive(Clone, Copy)]
+pub(crate) struct Kept(pub(crate) Option<Finding>);
 
-pub(crate) fn print_sampled(rt: &impl Print, x: Sampled) -> io::Result<()> {
-    match x {
-        Sampled::Value { r, wet, dry } => print_values(rt, 0, r, wet, dry),
-        Sampled::Refused(number) => print_values(rt, number, 0, 0, 0),
+impl fmt::Display for Kept {
+    fn fmt<W: fmt::Write>(&self, f: &mut fmt::Formatter<W>) -> fmt::Result {
+        match self.0 {
+            Some(found) => write!(f, "{} {} {}", found.p, found.t, FoundSignal(found.r)),
+            None => f.write_str("empty"),
+        }
     }
 }
 
 // Refusal, m, x and y of an answer.
-pub(crate) fn print_answer(rt: &impl Print, a: Answer) -> io::Result<()> {
-    match a {
-        Answer::Reading { r, wet, dry } => print_values(rt, 0, r, wet, dry),
-        Answer::Refused(number) => print_values(rt, number, 0, 0, 0),
-        Answer::Done => print_values(rt, 0, 0, 0, 0),
-        Answer::Zeroed(q) => print_values(rt, 0, 0, q, 0),
-        Answer::Spanned(s) => print_values(rt, 0, s, 0, 0),
-        Answer::Area { n, area } => print_values(rt, 0, n, area, 0),
+#[derive(Clone, Copy)]
+pub(crate) struct Figures {
+    refusal: u8,
+    m: u64,
+    x: i64,
+    y: i64,
+}
+
+impl Figures {
+    fn accepted(m: u64, x: i64, y: i64) -> Self {
+        Figures {
+            refusal: 0,
+            m,
+            x,
+            y,
+        }
+    }
+
+    fn refused(why: Refusal) -> Self {
+        Figures {
+            refusal: why.number(),
+            m: 0,
+            x: 0,
+            y: 0,
+        }
     }
 }
 
-fn print_values(rt: &impl Print, number: u8, m: u64, x: i64, y: i64) -> io::Result<()> {
-    print!(rt; "{number} {m} {x} {y}")
+impl From<Answer> for Figures {
+    fn from(a: Answer) -> Self {
+        match a {
+            Answer::Done => Figures::accepted(0, 0, 0),
+            Answer::Zeroed(q) => Figures::accepted(0, q, 0),
+            Answer::Spanned(s) => Figures::accepted(s, 0, 0),
+            Answer::Reading { r, wet, dry } => Figures::accepted(r, wet, dry),
+            Answer::Area { n, area } => Figures::accepted(n, area, 0),
+            Answer::Refused(why) => Figures::refused(why),
+        }
+    }
+}
+
+impl From<Result<SampleValues, Refusal>> for Figures {
+    fn from(x: Result<SampleValues, Refusal>) -> Self {
+        match x {
+            Ok(v) => Figures::accepted(v.r, v.wet, v.dry),
+            Err(why) => Figures::refused(why),
+        }
+    }
+}
+
+impl fmt::Display for Figures {
+    fn fmt<W: fmt::Write>(&self, f: &mut fmt::Formatter<W>) -> fmt::Result {
+        write!(f, "{} {} {} {}", self.refusal, self.m, self.x, self.y)
+    }
 }

@@ -6,10 +6,9 @@
 // tests/, which works from document 01 alone. Half of the document's last digit is 50,000: no row differs by more.
 #![tactic(auto)]
 
-ghost use Rattle.std.specs.Prelude.{◌<◌, ◌≤◌, nat_abs};
+ghost use Rattle.std.specs.Prelude.{◌≤◌, nat_abs, IfSome};
 
-use curve::{Air, Reading, Sheet};
-use rounding::signed::{difference, product};
+use curve::{Air, OutOfRange, Sheet};
 use std::io;
 
 // PPM of Table 3-1 in tenths, from 1,600 mV on in steps of 20 mV.
@@ -25,60 +24,56 @@ fn main(rt: HostRuntime) -> io::Result<()> {
     bench_reading(&rt)?;
     bench_sheet(&rt)?;
     println!(rt; "mV document ours difference")?;
-    for i in 0..72 {
-        row(&rt, 1600 + 20 * i, PPM_TENTHS[i as usize])?;
+    for (mv, tenths) in (1600..).step_by(20).zip(PPM_TENTHS) {
+        row(&rt, mv, tenths)?;
     }
     Ok(())
 }
 
+// Document 01's bench sheet.
+const BENCH: Sheet = Sheet {
+    a1: 150000000,
+    a2: 5000000,
+    a3: 5000000,
+    t0: 29815,
+    k: 200000000,
+};
+
 // V 70,000,000 on the bench sheet: c would be 3,010,000,000.
 fn bench_reading(rt: &impl Print) -> io::Result<()> {
-    let sheet = Sheet {
-        a1: 150000000,
-        a2: 5000000,
-        a3: 5000000,
-        t0: 29815,
-        k: 200000000,
-    };
     let air = Air {
         p: 101300,
         t: 29815,
         e: 0,
     };
-    match curve::absolute(sheet, 70000000, air) {
-        Reading::Value(c) => println!(rt; "V 70000000: {c}"),
-        Reading::BelowZero => println!(rt; "V 70000000: refusal 7"),
-        Reading::OverRange => println!(rt; "V 70000000: refusal 8"),
+    match curve::absolute(BENCH, 70000000, air) {
+        Ok(c) => println!(rt; "V 70000000: {c}"),
+        Err(OutOfRange::BelowZero) => println!(rt; "V 70000000: refusal 7"),
+        Err(OutOfRange::OverRange) => println!(rt; "V 70000000: refusal 8"),
     }
 }
 
 // A sheet with A1 0 is outside its limits.
 fn bench_sheet(rt: &impl Print) -> io::Result<()> {
-    let sheet = Sheet {
-        a1: 0,
-        a2: 5000000,
-        a3: 5000000,
-        t0: 29815,
-        k: 200000000,
-    };
-    if curve::limits::sheet_within(sheet) {
+    if curve::limits::sheet_within(Sheet { a1: 0, ..BENCH }) {
         println!(rt; "A1 0: accepted")
     } else {
         println!(rt; "A1 0: refusal 2")
     }
 }
 
-// A row of the table: a1 0.1420, a2 2.258E-05, a3 1.787E-09, K 19130 mV, T0 40.2 degrees; P 101,300, T = T0, e 0.
+// A row of the table. No signal in it is refused.
 fn row(rt: &impl Print, mv: u16, tenths: u16) -> io::Result<()> {
-    let document = product(wide(tenths), 100000);
-    let ours = table_reading(product(wide(mv), 10000));
-    let apart = difference(ours, document);
-    println!(rt; "{mv} {document} {ours} {apart}")
+    let document = i64::from(tenths) * 100000;
+    match table_reading(i64::from(mv) * 10000) {
+        Some(ours) => println!(rt; "{mv} {document} {ours} {}", ours - document),
+        None => println!(rt; "{mv} {document} refused"),
+    }
 }
 
-// The wet value of a signal on the table's sheet; -1, which no row of the table reads, where it is refused.
-fn table_reading(v: i64) -> i64
-    ensures { nat_abs result ≤ 3000000000 }
+// The wet value of a signal on the table's sheet: a1 0.1420, a2 2.258E-05, a3 1.787E-09, K 19130 mV, T0 40.2 degrees; P 101,300, T = T0, e 0.
+fn table_reading(v: i64) -> Option<i64>
+    ensures { IfSome result (λ c. nat_abs c ≤ 3000000000) }
 {
     let sheet = Sheet {
         a1: 142000000,
@@ -92,14 +87,8 @@ fn table_reading(v: i64) -> i64
         t: 31335,
         e: 0,
     };
-    let Reading::Value(c) = curve::absolute(sheet, v, air) else {
-        return -1;
-    };
-    c
-}
-
-fn wide(x: u16) -> i64
-    ensures { nat_abs result < 65536 }
-{
-    x as i64
+    match curve::absolute(sheet, v, air) {
+        Ok(c) => Some(c),
+        Err(_) => None,
+    }
 }

@@ -10,179 +10,180 @@
 
 ghost use Rattle.std.specs.Prelude.{◌≤◌};
 
-use counting::{Integration, limit_of};
+use counting::Integration;
 use engine::step;
 use layout::SheetRecord;
 use layout::records::put_sheet;
-use rules::{Answer, Entry, Event, State, fresh_state};
+use rules::{Answer, Entry, Event, State, Stepped, fresh_state};
 use sampling::Measurement;
-use std::io;
+use std::{fmt, io};
 
 fn main(rt: HostRuntime) -> io::Result<()> {
-    let mut sheets = [0u8; 24];
-    put_sheet(
-        &mut sheets,
-        0,
-        SheetRecord {
-            a1: 150000000,
-            a2: 5000000,
-            a3: 5000000,
-            t0: 29815,
-            k: 200000000,
-            rest: 0,
-        },
-    );
-    tables(&rt, &sheets)
-}
-
-fn tables(rt: &impl Print, sheets: &[u8]) -> io::Result<()> {
+    let bench = Bench::new();
     println!(rt; "kind | samples | area | integration")?;
-    limits(rt, sheets)?;
+    bench.limits(&rt)?;
     println!(rt; "before | event | answer | integration | area after 600001 samples more")?;
-    starts(rt, sheets, "no sheet", fresh_state(), 0)?;
-    starts(rt, sheets, "idle", loaded(sheets), 0)?;
-    events(rt, sheets, "kind 7, 3 samples", Event::Start)?;
-    events(rt, sheets, "kind 10, 3 samples", Event::StartShort)?;
-    let closed = sampled(sheets, started(sheets, Event::StartShort), 0, 6000);
-    starts(rt, sheets, "kind 10, 6000 samples", closed, 6000)?;
-    ends(rt, sheets, "kind 10, 6000 samples", closed, 6000)?;
-    // More than a short one can count: that n must not stay.
-    let longer = sampled(sheets, started(sheets, Event::Start), 0, 6001);
-    starts(rt, sheets, "kind 7, 6001 samples", longer, 6001)
+    bench.tables(&rt)
 }
 
-// One sample short of each limit, at it and beyond it; what closes a short one does not close a long one.
-fn limits(rt: &impl Print, sheets: &[u8]) -> io::Result<()> {
-    limit(rt, sheets, 10, Event::StartShort, 5999)?;
-    limit(rt, sheets, 10, Event::StartShort, 6000)?;
-    limit(rt, sheets, 10, Event::StartShort, 6001)?;
-    limit(rt, sheets, 7, Event::Start, 5999)?;
-    limit(rt, sheets, 7, Event::Start, 6000)?;
-    limit(rt, sheets, 7, Event::Start, 6001)?;
-    limit(rt, sheets, 7, Event::Start, 599999)?;
-    limit(rt, sheets, 7, Event::Start, 600000)?;
-    limit(rt, sheets, 7, Event::Start, 600001)
-}
-
-fn limit(rt: &impl Print, sheets: &[u8], kind: u64, start: Event, samples: u32) -> io::Result<()>
-    requires { samples ≤ 1000000 }
-{
-    let st = sampled(sheets, started(sheets, start), 0, samples);
-    print!(rt; "{kind} | {samples} | ")?;
-    print_area(rt, sheets, st)?;
-    print!(rt; " | ")?;
-    print_integration(rt, st)?;
-    print!(rt; "\n")
-}
-
-// What may stand before an event: a loaded sheet; a start of this kind too.
-fn loaded(sheets: &[u8]) -> State {
-    let next = step(
-        sheets,
-        fresh_state(),
-        Entry::Known(Event::Load { index: 0 }),
-    );
-    next.state
-}
-
-fn started(sheets: &[u8], start: Event) -> State {
-    let next = step(sheets, loaded(sheets), Entry::Known(start));
-    next.state
-}
-
-// Both starts, what closes a running one, what discards it, and what leaves it.
-fn events(rt: &impl Print, sheets: &[u8], before: &str, start: Event) -> io::Result<()> {
-    let st = sampled(sheets, started(sheets, start), 0, 3);
-    starts(rt, sheets, before, st, 3)?;
-    ends(rt, sheets, before, st, 3)?;
-    row(
-        rt,
-        sheets,
-        before,
-        st,
-        3,
-        "refused sample",
-        sample(150000001),
-    )?;
-    row(
-        rt,
-        sheets,
-        before,
-        st,
-        3,
-        "malformed 6",
-        Entry::Malformed(6),
-    )?;
-    row(
-        rt,
-        sheets,
-        before,
-        st,
-        3,
-        "malformed 10",
-        Entry::Malformed(10),
-    )?;
-    let zero = Entry::Known(Event::Zero { raw: 0 });
-    row(rt, sheets, before, st, 3, "zero", zero)
-}
-
-fn starts(rt: &impl Print, sheets: &[u8], before: &str, st: State, samples: u32) -> io::Result<()>
-    requires { samples ≤ 10000 }
-{
-    let long = Entry::Known(Event::Start);
-    row(rt, sheets, before, st, samples, "kind 7", long)?;
-    let short = Entry::Known(Event::StartShort);
-    row(rt, sheets, before, st, samples, "kind 10", short)
-}
-
-// A stop, and the area, which leaves it.
-fn ends(rt: &impl Print, sheets: &[u8], before: &str, st: State, samples: u32) -> io::Result<()>
-    requires { samples ≤ 10000 }
-{
-    let stop = Entry::Known(Event::Stop);
-    row(rt, sheets, before, st, samples, "stop", stop)?;
-    let area = Entry::Known(Event::Area);
-    row(rt, sheets, before, st, samples, "area", area)
-}
-
-// An entry at a state that so many samples led to.
-fn row(
-    rt: &impl Print,
-    sheets: &[u8],
-    before: &str,
-    st: State,
+// What may stand before an event: how a row calls it, the state, and how many samples led to it.
+#[derive(Drop)]
+struct Before<'a> {
+    label: &'a str,
+    state: State,
     samples: u32,
-    label: &str,
-    entry: Entry,
-) -> io::Result<()>
-    requires { samples ≤ 10000 }
-{
-    let next = step(sheets, st, entry);
-    let answer = next.answer;
-    let after = next.state;
-    print!(rt; "{before} | {label} | ")?;
-    print_answer(rt, answer)?;
-    print!(rt; " | ")?;
-    print_integration(rt, after)?;
-    print!(rt; " | ")?;
-    print_area(
-        rt,
-        sheets,
-        sampled(sheets, after, samples, samples + 600001),
-    )?;
-    print!(rt; "\n")
+    ghost few: { samples ≤ 10000 },
 }
 
-// The state after the samples beyond `from`, up to `to`.
-fn sampled(sheets: &[u8], st: State, from: u32, to: u32) -> State
-    requires { to ≤ 1000000 }
-{
-    let mut state = st;
-    for i in from..to {
-        let next = step(sheets, state, sample(raw_of(i + 1)));
-        state = next.state;
+// The engine under a list of the bench sheet alone.
+#[derive(Drop)]
+struct Bench {
+    sheets: [u8; 24],
+}
+
+impl Bench {
+    fn new() -> Self {
+        let mut sheets = [0; 24];
+        put_sheet(
+            &mut sheets,
+            0,
+            SheetRecord {
+                a1: 150000000,
+                a2: 5000000,
+                a3: 5000000,
+                t0: 29815,
+                k: 200000000,
+                rest: 0,
+            },
+        );
+        Bench { sheets }
     }
-    state
+
+    // One sample short of each limit, at it and beyond it; what closes a short one does not close a long one.
+    fn limits(&self, rt: &impl Print) -> io::Result<()> {
+        for (kind, start, first) in [
+            (10, Event::StartShort, 5999),
+            (7, Event::Start, 5999),
+            (7, Event::Start, 599999),
+        ] {
+            for samples in first..first + 3 {
+                self.limit(rt, kind, start, samples)?;
+            }
+        }
+        Ok(())
+    }
+
+    fn limit(&self, rt: &impl Print, kind: u8, start: Event, samples: u32) -> io::Result<()>
+        requires { samples ≤ 1000000 }
+    {
+        let st = self.sampled(self.started(start), 0, samples);
+        println!(rt;
+            "{kind} | {samples} | {} | {}",
+            Said(self.area(st)),
+            Standing(st.integration)
+        )
+    }
+
+    fn tables(&self, rt: &impl Print) -> io::Result<()> {
+        for (label, state) in [("no sheet", fresh_state()), ("idle", self.loaded())] {
+            let before = Before {
+                label,
+                state,
+                samples: 0,
+            };
+            self.starts(rt, &before)?;
+        }
+        for (label, start) in [
+            ("kind 7, 3 samples", Event::Start),
+            ("kind 10, 3 samples", Event::StartShort),
+        ] {
+            self.events(rt, &self.running(label, start, 3))?;
+        }
+        let closed = self.running("kind 10, 6000 samples", Event::StartShort, 6000);
+        self.starts(rt, &closed)?;
+        self.ends(rt, &closed)?;
+        // More than a short one can count: that n must not stay.
+        let longer = self.running("kind 7, 6001 samples", Event::Start, 6001);
+        self.starts(rt, &longer)
+    }
+
+    // A start of this kind, and so many samples.
+    fn running<'a>(&self, label: &'a str, start: Event, samples: u32) -> Before<'a>
+        requires { samples ≤ 10000 }
+    {
+        Before {
+            label,
+            state: self.sampled(self.started(start), 0, samples),
+            samples,
+        }
+    }
+
+    // Both starts, what closes a running one, what discards it, and what leaves it.
+    fn events(&self, rt: &impl Print, before: &Before) -> io::Result<()> {
+        self.starts(rt, before)?;
+        self.ends(rt, before)?;
+        for (label, entry) in [
+            ("refused sample", sample(150000001)),
+            ("malformed 6", Entry::Malformed(6)),
+            ("malformed 10", Entry::Malformed(10)),
+            ("zero", Entry::Known(Event::Zero { raw: 0 })),
+        ] {
+            self.row(rt, before, label, entry)?;
+        }
+        Ok(())
+    }
+
+    fn starts(&self, rt: &impl Print, before: &Before) -> io::Result<()> {
+        self.row(rt, before, "kind 7", Entry::Known(Event::Start))?;
+        self.row(rt, before, "kind 10", Entry::Known(Event::StartShort))
+    }
+
+    // A stop, and the area, which leaves it.
+    fn ends(&self, rt: &impl Print, before: &Before) -> io::Result<()> {
+        self.row(rt, before, "stop", Entry::Known(Event::Stop))?;
+        self.row(rt, before, "area", Entry::Known(Event::Area))
+    }
+
+    fn row(&self, rt: &impl Print, before: &Before, label: &str, entry: Entry) -> io::Result<()> {
+        let next = self.step(before.state, entry);
+        let after = next.state;
+        let more = self.sampled(after, before.samples, before.samples + 600001);
+        println!(rt;
+            "{} | {label} | {} | {} | {}",
+            before.label,
+            Said(next.answer),
+            Standing(after.integration),
+            Said(self.area(more))
+        )
+    }
+
+    fn step(&self, st: State, entry: Entry) -> Stepped {
+        step(&self.sheets, st, entry)
+    }
+
+    fn loaded(&self) -> State {
+        self.step(fresh_state(), Entry::Known(Event::Load { index: 0 }))
+            .state
+    }
+
+    fn started(&self, start: Event) -> State {
+        self.step(self.loaded(), Entry::Known(start)).state
+    }
+
+    fn area(&self, st: State) -> Answer {
+        self.step(st, Entry::Known(Event::Area)).answer
+    }
+
+    // The state after the samples beyond `from`, up to `to`.
+    fn sampled(&self, st: State, from: u32, to: u32) -> State
+        requires { to ≤ 1000000 }
+    {
+        let mut state = st;
+        for i in from..to {
+            state = self.step(state, sample(raw_of(i + 1))).state;
+        }
+        state
+    }
 }
 
 fn raw_of(i: u32) -> i32
@@ -201,35 +202,30 @@ fn sample(raw: i32) -> Entry {
     Entry::Known(Event::Sample { at })
 }
 
-fn print_area(rt: &impl Print, sheets: &[u8], st: State) -> io::Result<()> {
-    let next = step(sheets, st, Entry::Known(Event::Area));
-    let answer = next.answer;
-    print_answer(rt, answer)
-}
+// An answer as a row has it: n and area, or the number of the refusal; other answers are only said to be accepted.
+#[derive(Clone, Copy)]
+struct Said(Answer);
 
-// n and area, or the number of the refusal; other answers are only said to be accepted.
-fn print_answer(rt: &impl Print, a: Answer) -> io::Result<()> {
-    match a {
-        Answer::Area { n, area } => print!(rt; "{n} {area}"),
-        Answer::Refused(number) => print!(rt; "refused {number}"),
-        Answer::Done | Answer::Zeroed(_) | Answer::Spanned(_) | Answer::Reading { .. } => print!(rt;
-            "accepted"
-        ),
+impl fmt::Display for Said {
+    fn fmt<W: fmt::Write>(&self, f: &mut fmt::Formatter<W>) -> fmt::Result {
+        match self.0 {
+            Answer::Area { n, area } => write!(f, "{n} {area}"),
+            Answer::Refused(why) => write!(f, "refused {}", why.number()),
+            _ => f.write_str("accepted"),
+        }
     }
 }
 
-fn print_integration(rt: &impl Print, st: State) -> io::Result<()> {
-    let i = st.integration;
-    match i {
-        Integration::Idle => print!(rt; "idle"),
-        Integration::Running(chart, t) => {
-            let n = t.n;
-            let limit = limit_of(chart);
-            print!(rt; "running {n} of {limit}")
-        }
-        Integration::Closed(t) => {
-            let n = t.n;
-            print!(rt; "closed {n}")
+// How an integration stands.
+#[derive(Clone, Copy)]
+struct Standing(Integration);
+
+impl fmt::Display for Standing {
+    fn fmt<W: fmt::Write>(&self, f: &mut fmt::Formatter<W>) -> fmt::Result {
+        match self.0 {
+            Integration::Idle => f.write_str("idle"),
+            Integration::Running(chart, t) => write!(f, "running {} of {}", t.n, chart.limit()),
+            Integration::Closed(t) => write!(f, "closed {}", t.n),
         }
     }
 }

@@ -11,13 +11,13 @@ use borrow.Author.Tests.{eq-eqb, ne_eqb}
 use lib.Dec.{T, eqb}
 use lib.ListN.{length, drop, get_elem?}
 use lib.Seq.{drop_at}
+use Rattle.std.specs.Prelude.{Option, Some, None, is_some}
 use Rattle.layout.specs.Lent.{Puts}
 use Rattle.layout.proofs.Lent.{puts_length, fills_puts}
 use Rattle.rules.specs.Answer.{refusal_of}
 use Rattle.engine.specs.Transcript.{Line}
 use Rattle.grounds.specs.declared.Ground.{Ground}
 use Rattle.grounds.specs.Grounds.{ground_number, entry_ground}
-use Rattle.grounds.specs.Promises.{is_named}
 use Rattle.grounds.proofs.Promises.{exactly}
 use Rattle.format.specs.Header.{event_count, well_formed, sheets_of}
 use Rattle.forms.specs.declared.Form.{Form}
@@ -30,25 +30,22 @@ use Rattle.claims.specs.Grounds.{Tells, EventGrounded, Grounded, EveryGrounds, B
 use Rattle.claims.proofs.Claim.{element, file_lines, line_entry, every_line_of, line_read, kept}
 
 -- ---- the byte of a line
-number_named : (g : Ground) → is_named g ≡ true → (1 ≤ ground_number g) × (ground_number g ≤ 4)
-number_named Ground.Nothing e = absurd (subst T (sym e) tt)
-number_named Ground.SignalHigh e = (omega arith, omega arith)
-number_named Ground.SignalAtK e = (omega arith, omega arith)
-number_named Ground.ReducedHigh e = (omega arith, omega arith)
-number_named Ground.WetHigh e = (omega arith, omega arith)
+number_named : (g : Option Ground) → is_some g ≡ true → (1 ≤ ground_number g) × (ground_number g ≤ 4)
+number_named None e = absurd (subst T (sym e) tt)
+number_named (Some Ground.SignalHigh) e = (omega arith, omega arith)
+number_named (Some Ground.SignalAtK) e = (omega arith, omega arith)
+number_named (Some Ground.ReducedHigh) e = (omega arith, omega arith)
+number_named (Some Ground.WetHigh) e = (omega arith, omega arith)
 
-number_none : (g : Ground) → is_named g ≡ false → ground_number g ≡ 0
-number_none Ground.Nothing e = refl
-number_none Ground.SignalHigh e = absurd (subst T e tt)
-number_none Ground.SignalAtK e = absurd (subst T e tt)
-number_none Ground.ReducedHigh e = absurd (subst T e tt)
-number_none Ground.WetHigh e = absurd (subst T e tt)
+number_none : (g : Option Ground) → is_some g ≡ false → ground_number g ≡ 0
+number_none None e = refl
+number_none (Some g) e = absurd (subst T e tt)
 
-abbrev ground_in : Line → Ground
+abbrev ground_in : Line → Option Ground
 ground_in l = entry_ground l.before l.entry
 
-line_named : (file : List ℕ) (i : ℕ) (l : Line) → LineIs file i l → is_named (ground_in l) ≡ eqb (refusal_of l.answer) 8
-line_named file = every_line_of (λ (l : Line). is_named (ground_in l) ≡ eqb (refusal_of l.answer) 8) file (exactly (sheets_of file))
+line_named : (file : List ℕ) (i : ℕ) (l : Line) → LineIs file i l → is_some (ground_in l) ≡ eqb (refusal_of l.answer) 8
+line_named file = every_line_of (λ (l : Line). is_some (ground_in l) ≡ eqb (refusal_of l.answer) 8) file (exactly (sheets_of file))
 
 line_tells : (file : List ℕ) (i : ℕ) (l : Line) → LineIs file i l → Tells (refusal_of l.answer) (ground_number (ground_in l))
 line_tells file i l is =

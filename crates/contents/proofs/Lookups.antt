@@ -1,4 +1,6 @@
 -- What a load finds in bytes whose records are those of planned sheets. Assumes nothing.
+use Rattle.refusals.specs.declared.Refusal.{Refusal}
+use Rattle.std.specs.Prelude.{Err, Ok}
 use Prim.Native.Nat.{ℕ, zero, suc, ◌*◌, ◌<◌, ◌≤◌}
 use native.Mathlib.Nat.{zero-add}
 use native.Mathlib.Omega.{arith}
@@ -11,7 +13,7 @@ use lib.IntN.{pos}
 use lib.ListN.{length, get_or, length-map}
 use Rattle.layout.specs.declared.SheetRecord.{SheetRecord}
 use Rattle.layout.specs.Records.{sheet_of, sheet_at}
-use Rattle.sheets.specs.declared.Lookup.{Lookup}
+use Rattle.sheets.specs.Sheets.{Lookup}
 use Rattle.sheets.specs.Sheets.{sheets_held, as_sheet, record_within, lookup_of}
 use Rattle.format.proofs.File.{length_records, record_of}
 use Rattle.contents.specs.declared.PlannedSheet.{PlannedSheet}
@@ -24,10 +26,10 @@ and_true false = refl
 
 -- what a load finds of a record
 abbrev record_found : SheetRecord → Lookup
-record_found r = cond (record_within r) (Lookup.Found (as_sheet r)) (Lookup.Refused 2)
+record_found r = cond (record_within r) (Ok (as_sheet r)) (Err Refusal.BadSheet)
 
-planned_found : (s : PlannedSheet) → record_found (record_of_sheet s) ≡ cond (planned_within s) (Lookup.Found (sheet_from s)) (Lookup.Refused 2)
-planned_found s = ap (λ (b : Bool). cond b (Lookup.Found (sheet_from s)) (Lookup.Refused 2)) (and_true (planned_within s))
+planned_found : (s : PlannedSheet) → record_found (record_of_sheet s) ≡ cond (planned_within s) (Ok (sheet_from s)) (Err Refusal.BadSheet)
+planned_found s = ap (λ (b : Bool). cond b (Ok (sheet_from s)) (Err Refusal.BadSheet)) (and_true (planned_within s))
 
 -- among the sheets, and past the last
 among : (ss : List PlannedSheet) (index : ℕ) (d : SheetRecord) → index < length ss → record_found (get_or (map record_of_sheet ss) index d) ≡ found_among ss index
@@ -35,7 +37,7 @@ among [] index d h = absurd (omega arith)
 among (s ∷ ss) zero d h = planned_found s
 among (s ∷ ss) (suc index) d h = among ss index d (omega arith)
 
-past : (ss : List PlannedSheet) (index : ℕ) → length ss ≤ index → found_among ss index ≡ Lookup.Refused 1
+past : (ss : List PlannedSheet) (index : ℕ) → length ss ≤ index → found_among ss index ≡ Err Refusal.NoSheet
 past [] index h = refl
 past (s ∷ ss) zero h = absurd (omega arith)
 past (s ∷ ss) (suc index) h = past ss index (omega arith)
@@ -52,7 +54,7 @@ planned_loads b ss e index = go (ltb index (sheets_held b)) refl
     d = record { a1 = pos 0; a2 = pos 0; a3 = pos 0; t0 = 0; k = 0; rest = 0 }
 
     go : (t : Bool) → ltb index (sheets_held b) ≡ t
-        → cond t (cond (record_within (sheet_at b (24 * index))) (Lookup.Found (as_sheet (sheet_at b (24 * index)))) (Lookup.Refused 2)) (Lookup.Refused 1) ≡ found_among ss index
+        → cond t (cond (record_within (sheet_at b (24 * index))) (Ok (as_sheet (sheet_at b (24 * index)))) (Err Refusal.BadSheet)) (Err Refusal.NoSheet) ≡ found_among ss index
     go true t =
         let h : index < sheets_held b = ltb-true _ _ t in
         let one : get_or (map record_of_sheet ss) index d ≡ sheet_at b (24 * index) = rw (← e, record_of sheet_of b 0 (sheets_held b) index d h, zero-add) in

@@ -1,13 +1,14 @@
 -- What a session file holds, as the run has it from the reader; and that writing and reading are inverse (document 02, R-2).
 -- `proofs/RoundTrip.antt` proves it. Assumes nothing.
-use Rattle.std.specs.Prelude.{ℕ, zero, suc, ◌≤◌, Bool, true, false, ◌&&◌, cond, List, [], ◌∷◌, map, ◌≡◌, eqb, nat_abs, length}
+use Rattle.refusals.specs.declared.Refusal.{Refusal}
+use Rattle.std.specs.Prelude.{ℕ, zero, suc, ◌≤◌, Bool, true, false, ◌&&◌, cond, List, [], ◌∷◌, map, ◌≡◌, eqb, nat_abs, length, Err, Ok}
 use Rattle.std.specs.Int.Signed.{non_neg}
 use Rattle.curve.specs.declared.Sheet.{Sheet}
 use Rattle.curve.specs.Limits.{sheet_within}
 use Rattle.fields.specs.Fields.{AreBytes}
 use Rattle.layout.specs.declared.SheetRecord.{SheetRecord}
 use Rattle.layout.specs.Records.{sheet_of}
-use Rattle.sheets.specs.declared.Lookup.{Lookup}
+use Rattle.sheets.specs.Sheets.{Lookup}
 use Rattle.sheets.specs.Sheets.{sheets_held, lookup_of}
 use Rattle.rules.specs.declared.Event.{Event}
 use Rattle.rules.specs.declared.Entry.{Entry}
@@ -58,8 +59,8 @@ abbrev pub planned_within : PlannedSheet → Bool
 planned_within s = non_neg s.a1 && non_neg s.a2 && non_neg s.a3 && sheet_within (sheet_from s)
 
 abbrev pub found_among : List PlannedSheet → ℕ → Lookup
-found_among [] index = Lookup.Refused 1
-found_among (s ∷ ss) zero = cond (planned_within s) (Lookup.Found (sheet_from s)) (Lookup.Refused 2)
+found_among [] index = Err Refusal.NoSheet
+found_among (s ∷ ss) zero = cond (planned_within s) (Ok (sheet_from s)) (Err Refusal.BadSheet)
 found_among (s ∷ ss) (suc index) = found_among ss index
 
 -- a file of accepted header and length, of which the run has exactly these sheets and these events: the sheets are those that it hands to

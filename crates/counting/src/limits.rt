@@ -2,8 +2,7 @@
 ghost use Rattle.std.specs.Prelude.{◌≡◌};
 ghost use Rattle.counting.specs.Limits.{tally_within, integration_within};
 
-use crate::{Integration, Tally, limit_of};
-use rounding::signed::magnitude;
+use crate::{Chart, Integration, Tally};
 
 pub fn integration_within(i: Integration) -> bool
     ensures { result ≡ integration_within i }
@@ -11,7 +10,7 @@ pub fn integration_within(i: Integration) -> bool
     match i {
         Integration::Idle => true,
         // A running one has a place left.
-        Integration::Running(chart, t) => tally_within(t) && t.n < limit_of(chart),
+        Integration::Running(chart, t) => tally_within(t) && t.n < chart.limit(),
         Integration::Closed(t) => tally_within(t),
     }
 }
@@ -20,14 +19,8 @@ pub fn integration_within(i: Integration) -> bool
 fn tally_within(t: Tally) -> bool
     ensures { result ≡ tally_within t }
 {
-    if 600000 < t.n {
-        return false;
-    }
-    if 3000000000 < magnitude(t.first) {
-        return false;
-    }
-    if 3000000000 < magnitude(t.last) {
-        return false;
-    }
-    magnitude(t.sum) <= 1800000000000000
+    t.n <= Chart::Long.limit()
+        && t.first.unsigned_abs() <= 3000000000
+        && t.last.unsigned_abs() <= 3000000000
+        && t.sum.unsigned_abs() <= 1800000000000000
 }

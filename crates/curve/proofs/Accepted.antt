@@ -1,4 +1,5 @@
 -- What an accepted reading says of its signal, of z and of its value. Assumes nothing.
+use Rattle.std.specs.Prelude.{Err, Ok}
 use mathlib.Core.Path.{◌≡◌, refl, sym, ◌∙◌, subst}
 use mathlib.Core.Bool.{Bool, true, false, cond}
 use Prim.Native.Nat.{ℕ, ◌≤◌}
@@ -10,8 +11,8 @@ use Rattle.rounding.proofs.Integers.{≤ℤ-trans}
 use Rattle.rounding.proofs.Tests.{lt_false, le_false, false_lt, size_between}
 use Rattle.curve.specs.declared.Sheet.{Sheet}
 use Rattle.curve.specs.declared.Air.{Air}
-use Rattle.curve.specs.declared.Reading.{Reading}
-use Rattle.curve.specs.declared.Reading.TheVariants.{Value, BelowZero, OverRange}
+use Rattle.curve.specs.Reading.{Reading}
+use Rattle.curve.specs.declared.OutOfRange.TheVariants.{BelowZero, OverRange}
 use Rattle.curve.specs.Limits.{SheetOk, AirOk}
 use Rattle.curve.specs.Curve.{reduced_of, wet_of}
 use Rattle.curve.specs.Absolute.{lowest_signal, signal_low, signal_high, signal_at_k, reduced_high, wet_high, unless_over, absolute_of}
@@ -25,46 +26,46 @@ pub record Accepted (s : Sheet) (v : ℤ) (a : Air) (c : ℤ) : Type 0 where
   pub c_high : c ≤ℤ pos 3000000000
   pub value : wet_of s v (reduced_of v a) a ≡ c
 
-pub not_value : (r : Reading) (c : ℤ) → r ≡ Value c → r ≡ OverRange → ⊥
+pub not_value : (r : Reading) (c : ℤ) → r ≡ Ok c → r ≡ Err OverRange → ⊥
 not_value r c p q = let z : ◌≡◌ {A = ℕ} 0 1 = cc in omega arith
 
-not_below : (c : ℤ) → BelowZero ≡ Value c → ⊥
+not_below : (c : ℤ) → ◌≡◌ {A = Reading} (Err BelowZero) (Ok c) → ⊥
 not_below c p = let z : ◌≡◌ {A = ℕ} 0 1 = cc in omega arith
 
-pub value_same : {c d : ℤ} → Value c ≡ Value d → c ≡ d
+pub value_same : {c d : ℤ} → ◌≡◌ {A = Reading} (Ok c) (Ok d) → c ≡ d
 value_same p = cc
 
 -- what the other arm of a match on a value knows: it is one of the refusals
-pub refused : (r : Reading) → ((c : ℤ) → r ≡ Value c → ⊥) → (r ≡ BelowZero) ⊎ (r ≡ OverRange)
-refused (Value c) t = absurd (t c refl)
-refused BelowZero t = inl refl
-refused OverRange t = inr refl
+pub refused : (r : Reading) → ((c : ℤ) → r ≡ Ok c → ⊥) → (r ≡ (Err BelowZero)) ⊎ (r ≡ (Err OverRange))
+refused (Ok c) t = absurd (t c refl)
+refused (Err BelowZero) t = inl refl
+refused (Err OverRange) t = inr refl
 
 -- a signal from 0 on is not below zero, so that a refused one is over range
-pub not_below_zero : (s : Sheet) (v : ℤ) (a : Air) → pos 0 ≤ℤ v → absolute_of s v a ≡ BelowZero → ⊥
+pub not_below_zero : (s : Sheet) (v : ℤ) (a : Air) → pos 0 ≤ℤ v → absolute_of s v a ≡ Err BelowZero → ⊥
 unfolding absolute_of
 not_below_zero s v a h p =
     let z = reduced_of v a in let c = wet_of s v z a in
     not_over (signal_high v) _ (not_over (signal_at_k s v) _ (not_over (reduced_high z) _ (not_over (wet_high c) _ (λ q. not_below c (sym q)))))
     (rw (false_lt v lowest_signal (≤ℤ-trans (le_z_yes tt) h)) at p)
   where
-    not_over : (x : Bool) (q : Reading) → (q ≡ BelowZero → ⊥) → unless_over x q ≡ BelowZero → ⊥
+    not_over : (x : Bool) (q : Reading) → (q ≡ Err BelowZero → ⊥) → unless_over x q ≡ Err BelowZero → ⊥
     not_over true q f p = let z : ◌≡◌ {A = ℕ} 0 1 = cc in omega arith
     not_over false q f p = f p
 
-pub over_range : (s : Sheet) (v : ℤ) (a : Air) {r : Reading} → pos 0 ≤ℤ v → r ≡ absolute_of s v a → ((c : ℤ) → r ≡ Value c → ⊥) → absolute_of s v a ≡ OverRange
+pub over_range : (s : Sheet) (v : ℤ) (a : Air) {r : Reading} → pos 0 ≤ℤ v → r ≡ absolute_of s v a → ((c : ℤ) → r ≡ Ok c → ⊥) → absolute_of s v a ≡ Err OverRange
 over_range s v a {r} h e t = ⊎_elim (λ q. absurd (not_below_zero s v a h (sym e ∙ q))) (λ q. sym e ∙ q) (refused r t)
 
 -- a reading past a ground is a value only where the ground fails
-passed : (ground : Bool) (r : Reading) {c : ℤ} → unless_over ground r ≡ Value c → (ground ≡ false) × (r ≡ Value c)
-passed true r {c} q = absurd (not_value OverRange c q refl)
+passed : (ground : Bool) (r : Reading) {c : ℤ} → unless_over ground r ≡ Ok c → (ground ≡ false) × (r ≡ Ok c)
+passed true r {c} q = absurd (not_value (Err OverRange) c q refl)
 passed false r q = (refl, q)
 
-not_low : (t : Bool) (r : Reading) {c : ℤ} → cond t BelowZero r ≡ Value c → (t ≡ false) × (r ≡ Value c)
+not_low : (t : Bool) (r : Reading) {c : ℤ} → cond t (Err BelowZero) r ≡ Ok c → (t ≡ false) × (r ≡ Ok c)
 not_low true r {c} q = absurd (not_below c q)
 not_low false r q = (refl, q)
 
-pub accepted : (s : Sheet) (v : ℤ) (a : Air) (c : ℤ) → absolute_of s v a ≡ Value c → Accepted s v a c
+pub accepted : (s : Sheet) (v : ℤ) (a : Air) (c : ℤ) → absolute_of s v a ≡ Ok c → Accepted s v a c
 unfolding absolute_of
 accepted s v a c q =
     let z = reduced_of v a in

@@ -4,3 +4,4 @@ pub mod Sizes
 pub mod Order
 pub mod Accepted
 pub mod Bench
+pub mod Tenth

@@ -1,4 +1,5 @@
 -- The reading never falls as the signal rises, refusals with 7 and 8 included: each rounded step keeps the order. Assumes nothing.
+use Rattle.std.specs.Prelude.{Ok}
 use mathlib.Core.Path.{◌≡◌, refl, sym, subst}
 use mathlib.Core.Bool.{Bool, true, false, cond}
 use Prim.Native.Nat.{ℕ, ◌*◌}
@@ -12,8 +13,7 @@ use Rattle.rounding.proofs.Nearest.{near_mono, near_nonnegative, near_nonpositiv
 use Rattle.rounding.proofs.Tests.{lt_true, lt_false, le_true, true_lt, true_le, false_lt}
 use Rattle.curve.specs.declared.Sheet.{Sheet}
 use Rattle.curve.specs.declared.Air.{Air}
-use Rattle.curve.specs.declared.Reading.{Reading}
-use Rattle.curve.specs.declared.Reading.TheVariants.{Value}
+use Rattle.curve.specs.Reading.{Reading}
 use Rattle.curve.specs.Limits.{SheetOk, AirOk}
 use Rattle.curve.specs.Curve.{broadening_of, reduced_of, slope2_of, slope1_of, cubic_of, straight_of, signal_negative, curve_of, moist_of, warm_of, wet_of}
 use Rattle.curve.specs.Absolute.{lowest_signal, signal_low, unless_over, absolute_of}
@@ -97,7 +97,7 @@ module _ (s : Sheet) (a : Air) (okS : SheetOk s) (okA : AirOk a) where
       rw (zero-*ℤ, near_zero 10000000 (omega arith), zero-*ℤ, near_zero (100 * a.p) (omega (arith, okA.p_low)), zero-*ℤ)
       (near_zero s.t0 (omega (arith, okS.t0_low)))
 
-  pub absolute_zero : absolute_of s (pos 0) a ≡ Value (pos 0)
+  pub absolute_zero : absolute_of s (pos 0) a ≡ Ok (pos 0)
   unfolding absolute_of
   absolute_zero = rw (reduced_zero, wet_zero, lt-leb s.k 0 (omega (arith, okS.k_low)))
 

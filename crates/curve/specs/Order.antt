@@ -1,11 +1,11 @@
 -- Two laws of the reading, across zero: z has the sign of the signal V, so that R-1's line and cubic part at the same place for both;
 -- and under one sheet and one air a higher signal never reads lower, refusals with 7 and 8 included. Assumes nothing.
-use Rattle.std.specs.Prelude.{◌≡◌, ℤ, pos, ◌≤ℤ◌}
+use Rattle.std.specs.Prelude.{◌≡◌, ℤ, pos, ◌≤ℤ◌, Err, Ok}
 use Rattle.std.specs.Int.Signed.{lt_z}
 use Rattle.curve.specs.declared.Sheet.{Sheet}
 use Rattle.curve.specs.declared.Air.{Air}
-use Rattle.curve.specs.declared.Reading.{Reading}
-use Rattle.curve.specs.declared.Reading.TheVariants.{Value, BelowZero, OverRange}
+use Rattle.curve.specs.Reading.{Reading}
+use Rattle.curve.specs.declared.OutOfRange.TheVariants.{BelowZero, OverRange}
 use Rattle.curve.specs.Limits.{SheetOk, AirOk}
 use Rattle.curve.specs.Curve.{reduced_of}
 use Rattle.curve.specs.Absolute.{absolute_of}
@@ -16,9 +16,9 @@ SameSign = (a : Air) → AirOk a → (v : ℤ) → (lt_z (reduced_of v a) (pos 0
 
 -- q is not above r: refusal 7 comes first, then the values in their order, then refusal 8
 pub data NotAbove : Reading → Reading → Type 0 where
-  from_below : {r : Reading} → NotAbove BelowZero r
-  values : {c d : ℤ} → c ≤ℤ d → NotAbove (Value c) (Value d)
-  to_over : {q : Reading} → NotAbove q OverRange
+  from_below : {r : Reading} → NotAbove (Err BelowZero) r
+  values : {c d : ℤ} → c ≤ℤ d → NotAbove (Ok c) (Ok d)
+  to_over : {q : Reading} → NotAbove q (Err OverRange)
 
 -- under a sheet and in air within their limits the reading never falls as the signal rises
 abbrev pub ReadingRises : Type 0

@@ -3,10 +3,9 @@
 
 ghost use Rattle.std.specs.Prelude.{◌≡◌};
 ghost use Rattle.curve.specs.Limits.{SheetOk, AirOk};
-ghost use Rattle.curve.specs.Absolute.{reading_refusal, absolute_of};
+ghost use Rattle.curve.specs.Absolute.{absolute_of};
 
 use crate::steps::{reduced, wet};
-use rounding::signed::{above, at_least, below};
 
 pub mod limits;
 pub mod steps;
@@ -29,49 +28,38 @@ pub struct Air {
     pub e: u64,
 }
 
-// The wet value in pmol/mol, or why there is none.
-#[derive(Clone, Copy)]
-pub enum Reading {
-    Value(i64),
-    // Refusal 7: below −2,000,000.
+// Why a signal has no reading.
+#[derive(Clone, Copy, PartialEq, Eq)]
+pub enum OutOfRange {
+    // Below −2,000,000.
     BelowZero,
-    // Refusal 8.
+    // Above one of four limits, of the signal, of K, of the reduced signal and of the wet value.
     OverRange,
 }
 
-// Document 01's refusal number of a reading, 0 if it is accepted.
-pub fn reading_refusal(r: Reading) -> u8
-    ensures { result ≡ reading_refusal r }
-{
-    match r {
-        Reading::Value(_) => 0,
-        Reading::BelowZero => 7,
-        Reading::OverRange => 8,
-    }
-}
-
-// The absolute reading of the signal v.
-pub fn absolute(s: Sheet, v: i64, a: Air) -> Reading
+#[tactic(auto, unfolding(crate::specs::Absolute::absolute_of))]
+// The absolute reading of the signal v: the wet value in pmol/mol.
+pub fn absolute(s: Sheet, v: i64, a: Air) -> Result<i64, OutOfRange>
     requires { SheetOk s × AirOk a }
     ensures { result ≡ absolute_of s v a }
 {
     // Both ends of V are tested before z is computed, so that its product fits.
-    if below(v, 2000000) {
-        return Reading::BelowZero;
+    if v < -2000000 {
+        return Err(OutOfRange::BelowZero);
     }
-    if above(v, 150000000) {
-        return Reading::OverRange;
+    if v > 150000000 {
+        return Err(OutOfRange::OverRange);
     }
-    if at_least(v, s.k) {
-        return Reading::OverRange;
+    if v >= s.k as i64 {
+        return Err(OutOfRange::OverRange);
     }
     let z = reduced(v, a);
-    if above(z, 100000000) {
-        return Reading::OverRange;
+    if z > 100000000 {
+        return Err(OutOfRange::OverRange);
     }
     let c = wet(s, v, z, a);
-    if above(c, 3000000000) {
-        return Reading::OverRange;
+    if c > 3000000000 {
+        return Err(OutOfRange::OverRange);
     }
-    Reading::Value(c)
+    Ok(c)
 }

@@ -4,7 +4,7 @@ ghost use Rattle.curve.specs.Limits.{SheetOk, AirOk};
 ghost use Rattle.curve.specs.Curve.{broadening_of, reduced_of, slope2_of, slope1_of, cubic_of, straight_of, curve_of, moist_of, warm_of, wet_of, dry_of};
 
 use crate::{Air, Sheet};
-use rounding::signed::{below_zero, positive, sum};
+use rounding::signed::{positive, sum};
 use rounding::{near_product, near_scaled};
 
 // D
@@ -60,11 +60,7 @@ fn curve(s: Sheet, v: i64, z: i64) -> i64
     requires { SheetOk s × (nat_abs z ≤ 100000000) }
     ensures { result ≡ curve_of s v z }
 {
-    if below_zero(v) {
-        straight(s, z)
-    } else {
-        cubic(s, z)
-    }
+    if v < 0 { straight(s, z) } else { cubic(s, z) }
 }
 
 // g

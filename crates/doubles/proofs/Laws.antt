@@ -1,22 +1,23 @@
--- Whole numbers below 2^53 in size are doubles exactly, and the numbers of a sample's record, or an area's, are such. No sample is
--- answered with an area, and no area event with a reading. Assumes nothing.
+-- Whole numbers below 2^53 in size are doubles exactly, and the numbers of a sample's record, or an area's, are such. Assumes
+-- nothing.
 use Prim.Native.Nat.{ℕ, suc, ◌^◌, ◌<◌}
 use native.Mathlib.Omega.{arith}
 use mathlib.Core.Bool.{Bool, true, false, ◌&&◌, cond}
 use mathlib.Core.List.{List}
-use mathlib.Core.Path.{◌≡◌, subst}
+use mathlib.Core.Path.{◌≡◌, refl}
 use borrow.Author.Tests.{ltb-true}
 use lib.Dec.{leb, eqb}
 use lib.IntN.{ℤ, pos, negsuc, nat_abs}
 use lib.ListN.{length}
 use lib.Ieee.{Float, binary64, of_int}
 use lib.Ieee.Back.{round_whole}
+use Rattle.std.proofs.Common.{Result, Ok, Err}
 use Rattle.curve.proofs.Within.{both}
 use Rattle.layout.specs.declared.AnswerRecord.{AnswerRecord}
 use Rattle.layout.specs.Records.{answer_at}
 use Rattle.doubles.specs.declared.Doubles.{Doubles}
-use Rattle.doubles.specs.declared.HostAnswer.{HostAnswer}
-use Rattle.doubles.specs.Doubles.{double_of, Whole, below_limit, doubles_of, accepted_as, refused_with, host_sample, host_area, host_sample_in, host_area_in}
+use Rattle.doubles.specs.declared.Refused.{Refused}
+use Rattle.doubles.specs.Doubles.{double_of, Whole, below_limit, doubles_of, refused, accepted_as, refused_with, double_in, value_as, host_sample, host_area, ExactReading, ExactArea, record_in}
 
 pub below : (z : ℤ) → below_limit z ≡ true → nat_abs z < 2 ^ 53
 below z e = omega (arith, ltb-true (nat_abs z) _ e)
@@ -33,30 +34,60 @@ x_limit kind a e = (both (eqb a.refusal 0 && eqb a.kind kind) (below_limit a.x) 
 pub sample_limits : (a : AnswerRecord) → (accepted_as 6 a && below_limit a.y) ≡ true → (below_limit a.x ≡ true) × (below_limit a.y ≡ true)
 sample_limits a e = let w = both (accepted_as 6 a) (below_limit a.y) e in (x_limit 6 a w.0, w.1)
 
--- ---- the case that an answer never is
+-- ---- the answer, and that its doubles are exact
 
--- what holds of each of an answer's cases, past two tests, holds of it
-any : (P : HostAnswer → Type 0) (s t : Bool) (x : HostAnswer) (n : ℕ) → P x → P (HostAnswer.Refused n) → P (HostAnswer.Refused 11)
-    → P (cond s (cond t x (HostAnswer.Refused n)) (HostAnswer.Refused 11))
-any P true true x n h k l = h
-any P true false x n h k l = k
-any P false t x n h k l = l
+pub exact_area : (a : AnswerRecord) → ExactArea (host_area a) a
+unfolding host_area
+exact_area a = go (accepted_as 9 a) refl
+  where
+    go : (s : Bool) → accepted_as 9 a ≡ s → ExactArea (cond s (Ok (double_of a.x)) (refused (refused_with a))) a
+    go true e = is_whole a.x (below a.x (x_limit 9 a e))
+    go false e = tt
 
--- a type for a reading, and one for an area
-abbrev By : Type 0 → Type 0 → HostAnswer → Type 0
-By reading area (HostAnswer.Reading d) = reading
-By reading area (HostAnswer.Area v) = area
-By reading area (HostAnswer.Refused number) = Unit
+pub exact_reading : (a : AnswerRecord) → a.m < 4294967296 → ExactReading (host_sample a) a
+unfolding host_sample
+exact_reading a m = go (accepted_as 6 a && below_limit a.y) refl
+  where
+    go : (s : Bool) → (accepted_as 6 a && below_limit a.y) ≡ s → ExactReading (cond s (Ok (doubles_of a)) (refused (refused_with a))) a
+    go true e = let w = sample_limits a e in (is_whole a.x (below a.x w.0), is_whole a.y (below a.y w.1), is_whole (pos a.m) (omega arith))
+    go false e = tt
 
-pub sample_no_area : (b : List ℕ) {v : Float} → host_sample_in b ≡ HostAnswer.Area v → ⊥
-unfolding host_sample host_sample_in
-sample_no_area b e =
-    let a = answer_at b 0 in
-    subst (By Unit ⊥) e
-    (any (By Unit ⊥) (leb 24 (length b)) (accepted_as 6 a && below_limit a.y) (HostAnswer.Reading (doubles_of a)) (refused_with a) tt tt tt)
+-- a reading of a wet and a dry value, where there are both
+abbrev pub reading : Result Float Refused → Result Float Refused → Float → Result Doubles Refused
+reading (Ok wet) (Ok dry) signal = Ok (record { wet = wet; dry = dry; signal = signal })
+reading (Ok wet) (Err e) signal = Err e
+reading (Err e) dry signal = Err e
 
-pub area_no_reading : (b : List ℕ) {d : Doubles} → host_area_in b ≡ HostAnswer.Reading d → ⊥
-unfolding host_area host_area_in
-area_no_reading b e =
-    let a = answer_at b 0 in
-    subst (By ⊥ Unit) e (any (By ⊥ Unit) (leb 24 (length b)) (accepted_as 9 a) (HostAnswer.Area (double_of a.x)) (refused_with a) tt tt tt)
+-- an accepted record has no number of its own
+no_number : (kind : ℕ) (a : AnswerRecord) → accepted_as kind a ≡ true → refused_with a ≡ 11
+no_number kind a e =
+    let w = both (eqb a.refusal 0 && eqb a.kind kind) (below_limit a.x) e in
+    let r : eqb a.refusal 0 ≡ true = (both (eqb a.refusal 0) (eqb a.kind kind) w.0).0 in
+    rw r
+
+-- a sample's answer by its two values
+pub by_values : (a : AnswerRecord) (wet dry : Result Float Refused) → wet ≡ value_as 6 a → dry ≡ double_in a.y
+    → reading wet dry (double_of (pos a.m)) ≡ host_sample a
+unfolding host_sample
+by_values a wet dry v d = rw (v, d) (go (accepted_as 6 a) (below_limit a.y) refl)
+  where
+    go : (s t : Bool) → accepted_as 6 a ≡ s
+        → reading (cond s (Ok (double_of a.x)) (refused (refused_with a))) (cond t (Ok (double_of a.y)) (refused 11)) (double_of (pos a.m))
+        ≡ cond (s && t) (Ok (doubles_of a)) (refused (refused_with a))
+    go true true e = refl
+    go true false e = rw (no_number 6 a e)
+    go false t e = refl
+
+-- what is answered of a record, or that it is malformed
+abbrev pub answered : {T : Type 0} → (AnswerRecord → Result T Refused) → Result AnswerRecord Refused → Result T Refused
+answered f (Ok a) = f a
+answered f (Err e) = Err e
+
+-- of the record that stands in the bytes
+pub by_record : {T : Type 0} (f : AnswerRecord → Result T Refused) (b : List ℕ) (r : Result AnswerRecord Refused) → r ≡ record_in b
+    → answered f r ≡ cond (leb 24 (length b)) (f (answer_at b 0)) (refused 11)
+by_record f b r e = rw e (go (leb 24 (length b)))
+  where
+    go : (s : Bool) → answered f (cond s (Ok (answer_at b 0)) (refused 11)) ≡ cond s (f (answer_at b 0)) (refused 11)
+    go true = refl
+    go false = refl

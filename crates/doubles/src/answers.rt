@@ -1,96 +1,94 @@
 // Answer records as doubles. A whole number below 2^53 in size becomes a double by `as`, and nothing is lost.
-ghost use Rattle.std.specs.Prelude.{◌≡◌, ◌&&◌};
+ghost use Rattle.std.specs.Prelude.{◌≡◌};
 ghost use Rattle.layout.specs.Records.{answer_at};
-ghost use Rattle.doubles.specs.Doubles.{below_limit, accepted_as, refused_with, host_sample, host_area, Exactly, host_sample_in, host_area_in};
+ghost use Rattle.doubles.specs.Doubles.{below_limit, double_in, value_as, host_sample, host_area, ExactReading, ExactArea, record_in, host_sample_in, host_area_in};
 
-use crate::{Doubles, HostAnswer};
+use crate::{Doubles, Refused};
 use layout::AnswerRecord;
 use layout::records::answer_at;
-use rounding::signed::magnitude;
 
 const RECORD_BYTES: usize = 24;
 
+// What the record of a sample's answer has for its kind, and of an area event's.
+const SAMPLE: u8 = 6;
+
+const AREA: u8 = 9;
+
+const MALFORMED: Refused = Refused { number: 11 };
+
 // The answer to a sample. A refused record keeps its number; one that is no accepted sample's is malformed.
-pub fn of_sample(a: AnswerRecord) -> HostAnswer
+pub fn of_sample(a: AnswerRecord) -> Result<Doubles, Refused>
     ensures value { result ≡ host_sample a }
-    ensures exactly { Exactly result a }
+    ensures exactly { ExactReading result a }
 {
-    if !is_sample(a) {
-        return HostAnswer::Refused(refused_with(a));
-    }
-    HostAnswer::Reading(Doubles {
-        wet: a.x as f64,
-        dry: a.y as f64,
+    Ok(Doubles {
+        wet: value_as(SAMPLE, a)?,
+        dry: double(a.y)?,
         signal: a.m as f64,
     })
 }
 
 // The answer to an area event, in the same way.
-pub fn of_area(a: AnswerRecord) -> HostAnswer
+pub fn of_area(a: AnswerRecord) -> Result<f64, Refused>
     ensures value { result ≡ host_area a }
-    ensures exactly { Exactly result a }
+    ensures exactly { ExactArea result a }
 {
-    if !accepted(a, 9) {
-        return HostAnswer::Refused(refused_with(a));
-    }
-    HostAnswer::Area(a.x as f64)
+    value_as(AREA, a)
 }
 
 // The answer to a sample from the bytes of its record. What stands after them is not read.
-pub fn sample_in(answer: &[u8]) -> HostAnswer
+pub fn sample_in(answer: &[u8]) -> Result<Doubles, Refused>
     ensures value { result ≡ host_sample_in answer.now }
-    ensures exactly { Exactly result (answer_at answer.now 0) }
+    ensures exactly { ExactReading result (answer_at answer.now 0) }
 {
-    if answer.len() < RECORD_BYTES {
-        return HostAnswer::Refused(11);
-    }
-    of_sample(answer_at(answer, 0))
+    of_sample(record_in(answer)?)
 }
 
 // The answer to an area event from the bytes of its record.
-pub fn area_in(answer: &[u8]) -> HostAnswer
+pub fn area_in(answer: &[u8]) -> Result<f64, Refused>
     ensures value { result ≡ host_area_in answer.now }
-    ensures exactly { Exactly result (answer_at answer.now 0) }
+    ensures exactly { ExactArea result (answer_at answer.now 0) }
+{
+    of_area(record_in(answer)?)
+}
+
+// The record that the bytes begin with. Fewer than its 24 are malformed.
+fn record_in(answer: &[u8]) -> Result<AnswerRecord, Refused>
+    ensures { result ≡ record_in answer.now }
 {
     if answer.len() < RECORD_BYTES {
-        return HostAnswer::Refused(11);
+        return Err(MALFORMED);
     }
-    of_area(answer_at(answer, 0))
+    Ok(answer_at(answer, 0))
 }
 
-// An accepted sample has doubles for x and y.
-fn is_sample(a: AnswerRecord) -> bool
-    ensures { result ≡ (accepted_as 6 a && below_limit a.y) }
-{
-    if !accepted(a, 6) {
-        return false;
-    }
-    below_limit(a.y)
-}
-
-// An accepted answer of a kind, with a double for x.
-fn accepted(a: AnswerRecord, kind: u8) -> bool
-    ensures { result ≡ accepted_as kind a }
+// The value x of an accepted answer of a kind.
+fn value_as(kind: u8, a: AnswerRecord) -> Result<f64, Refused>
+    ensures { result ≡ value_as kind a }
 {
     if a.refusal != 0 {
-        return false;
+        return Err(Refused { number: a.refusal });
     }
     if a.kind != kind {
-        return false;
+        return Err(MALFORMED);
     }
-    below_limit(a.x)
+    double(a.x)
 }
 
-// The number that a record is refused with: its own, or 11 where it has none.
-fn refused_with(a: AnswerRecord) -> u8
-    ensures { result ≡ refused_with a }
+// A whole number as a double. One that is too large is malformed.
+fn double(x: i64) -> Result<f64, Refused>
+    ensures { result ≡ double_in x }
 {
-    if a.refusal != 0 { a.refusal } else { 11 }
+    if below_limit(x) {
+        Ok(x as f64)
+    } else {
+        Err(MALFORMED)
+    }
 }
 
 // Below 2^53 in size: every whole number so small is a double.
 fn below_limit(x: i64) -> bool
     ensures { result ≡ below_limit x }
 {
-    magnitude(x) < 9007199254740992
+    x.unsigned_abs() < 9007199254740992
 }

@@ -11,10 +11,8 @@ pub struct Doubles {
     pub signal: f64,
 }
 
-// The host's answer: a reading, an area, or the number of a refusal.
+// An answer that is neither a reading nor an area, with the number of its refusal: the record's own, or 11.
 #[derive(Clone, Copy)]
-pub enum HostAnswer {
-    Reading(Doubles),
-    Area(f64),
-    Refused(u8),
+pub struct Refused {
+    pub number: u8,
 }

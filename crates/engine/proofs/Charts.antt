@@ -1,32 +1,33 @@
 -- What accepted samples make of an integration that a start began: it counts their wet values, and closes at its limit (`ShortCharts`). Assumes nothing.
+use Rattle.std.specs.Prelude.{Ok, Err}
+use Rattle.refusals.specs.declared.Refusal.{Refusal}
 use Prim.Native.Nat.{ℕ}
 use native.Mathlib.Omega.{arith}
 use mathlib.Core.Bool.{Bool, true, false, cond}
 use mathlib.Core.List.{List, [], ◌∷◌, map, append-nil}
 use mathlib.Core.Path.{◌≡◌, refl, sym, ap, subst, ◌∙◌}
-use lib.Dec.{T, eqb}
+use lib.Dec.{T}
 use lib.IntN.{ℤ}
 use lib.ListN.{length, length-map}
 use Rattle.counting.specs.declared.Chart.{Chart}
 use Rattle.counting.specs.declared.Tally.{Tally}
 use Rattle.counting.specs.declared.Integration.{Integration}
-use Rattle.counting.specs.Integration.{integration_limit, started, counted_of, closed_of}
+use Rattle.counting.specs.Integration.{integration_limit, started, counted_of}
 use Rattle.counting.specs.Charts.{counted_all}
 use Rattle.counting.proofs.Charts.{closes_at}
 use Rattle.sampling.specs.declared.Measurement.{Measurement}
-use Rattle.sampling.specs.declared.Sampled.{Sampled}
-use Rattle.sampling.specs.Sample.{sampled_refusal, sampled_signal, sampled_wet, sampled_dry}
+use Rattle.sampling.specs.Sample.{Sampled}
 use Rattle.store.specs.Store.{finding_in}
 use Rattle.rules.specs.declared.State.{State}
 use Rattle.rules.specs.declared.Event.{Event}
 use Rattle.rules.specs.declared.Entry.{Entry}
-use Rattle.rules.specs.declared.Answer.{Answer}
 use Rattle.rules.specs.declared.Stepped.{Stepped}
 use Rattle.rules.specs.Answer.{x_of, accepted}
 use Rattle.rules.specs.Rules.{refused}
 use Rattle.rules.specs.Limits.{workable}
 use Rattle.events.specs.Sample.{storing, sampled_of}
 use Rattle.events.specs.Events.{sample_answer, sample_after, sample_rule}
+use Rattle.refusals.proofs.Listed.{not_0}
 use Rattle.engine.specs.Step.{step_of}
 use Rattle.engine.specs.Transcript.{Line, transcript, leaves}
 use Rattle.engine.specs.Laws.{Begins}
@@ -34,23 +35,14 @@ use Rattle.engine.specs.Charts.{samples_of, start_then, AllAccepted, wets_after,
 use Rattle.engine.proofs.Transcript.{leaves_append, transcript_length}
 use Rattle.engine.proofs.Laws.{by_rules, worked, starts_alike}
 
--- what a sample makes of an integration, by whether its refusal is 0
-abbrev answer : Sampled → Bool → Answer
-answer x t = cond t (Answer.Reading (sampled_signal x) (sampled_wet x) (sampled_dry x)) (Answer.Refused (sampled_refusal x))
-
+-- what a sample makes of an integration
 counts : (i : Integration) (x : Sampled) → accepted (sample_answer x) ≡ true → sample_after i x ≡ counted_of i (x_of (sample_answer x))
-counts i x = go (eqb (sampled_refusal x) 0) refl
-  where
-    go : (t : Bool) → eqb (sampled_refusal x) 0 ≡ t → accepted (answer x t) ≡ true → cond t (counted_of i (sampled_wet x)) (closed_of i) ≡ counted_of i (x_of (answer x t))
-    go true e h = refl
-    go false e h = absurd (subst T (sym h ∙ e) tt)
+counts i (Ok v) h = refl
+counts i (Err why) h = absurd (subst T (sym h ∙ not_0 why) tt)
 
 stays : (t : Tally) (x : Sampled) → sample_after (Integration.Closed t) x ≡ Integration.Closed t
-stays t x = go (eqb (sampled_refusal x) 0)
-  where
-    go : (b : Bool) → cond b (counted_of (Integration.Closed t) (sampled_wet x)) (closed_of (Integration.Closed t)) ≡ Integration.Closed t
-    go true = refl
-    go false = refl
+stays t (Ok v) = refl
+stays t (Err why) = refl
 
 module _ (sheets : List ℕ) where
   abbrev stepped : State → Measurement → Stepped
@@ -67,7 +59,7 @@ module _ (sheets : List ℕ) where
   unfolding step_of
   closed st at {t} e = go (workable st)
     where
-      go : (w : Bool) → (cond w (sample_rule st at) (refused st 1)).state.integration ≡ Integration.Closed t
+      go : (w : Bool) → (cond w (sample_rule st at) (refused st Refusal.NoSheet)).state.integration ≡ Integration.Closed t
       go true =
           let x = sampled_of (storing st at) at (finding_in (storing st at).stored) in
           ap (λ (i : Integration). sample_after i x) e ∙ stays t x

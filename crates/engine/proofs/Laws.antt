@@ -1,5 +1,7 @@
 -- A record that the code works with is stepped by the rules, and no other gets an accepted answer. A step sees the sheets through the lookup of
 -- its load alone, an accepted load forgets the state before it, and a short start is answered as a start is. Assumes nothing.
+use Rattle.refusals.specs.declared.Refusal.{Refusal}
+use Rattle.std.specs.Prelude.{Err, None, Ok, Option, Some}
 use mathlib.Core.Bool.{Bool, true, false, cond}
 use mathlib.Core.List.{List}
 use mathlib.Core.Path.{◌≡◌, refl, sym, subst, ◌∙◌}
@@ -8,10 +10,9 @@ use lib.Dec.{T}
 use Rattle.curve.specs.declared.Sheet.{Sheet}
 use Rattle.counting.specs.declared.Chart.{Chart}
 use Rattle.counting.specs.Integration.{started}
-use Rattle.sheets.specs.declared.Lookup.{Lookup}
+use Rattle.sheets.specs.Sheets.{Lookup}
 use Rattle.sheets.specs.Sheets.{lookup_refusal, lookup_of}
-use Rattle.sheets.proofs.Numbers.{lookup_number}
-use Rattle.rules.specs.declared.Loaded.{Loaded}
+use Rattle.refusals.proofs.Listed.{not_0}
 use Rattle.rules.specs.declared.State.{State}
 use Rattle.rules.specs.declared.Event.{Event}
 use Rattle.rules.specs.declared.Entry.{Entry}
@@ -34,7 +35,7 @@ module _ (sheets : List ℕ) (st : State) (entry : Entry) where
   unfolding step_of
   worked = go (workable st)
     where
-      go : (w : Bool) → accepted (cond w (rules sheets st entry) (refused st 1)).answer ≡ true → w ≡ true
+      go : (w : Bool) → accepted (cond w (rules sheets st entry) (refused st Refusal.NoSheet)).answer ≡ true → w ≡ true
       go true k = refl
       go false k = k
 
@@ -66,44 +67,42 @@ module _ (a b : List ℕ) (st : State) where
 
 -- ---- what a load leaves: found, every state gives the same; refused, none accepts
 module _ (sheets : List ℕ) (index : ℕ) where
-  numbered : (st : State) (x : Lookup) → lookup_of sheets index ≡ x → refusal_of (load_by st x).answer ≡ lookup_refusal x
-  numbered st (Lookup.Found s) e = refl
-  numbered st (Lookup.Refused number) e = rw (lookup_number sheets index number e)
+  numbered : (st : State) (x : Lookup) → refusal_of (load_by st x).answer ≡ lookup_refusal x
+  numbered st (Ok s) = refl
+  numbered st (Err why) = refl
 
-  same : (st other : State) (x : Lookup) → lookup_of sheets index ≡ x → accepted (load_by st x).answer ≡ true → load_by other x ≡ load_by st x
-  same st other (Lookup.Found s) e k = refl
-  same st other (Lookup.Refused number) e k =
-      let n = lookup_number sheets index number e in
-      absurd (subst T (sym (rw n at k) ∙ n) tt)
+  same : (st other : State) (x : Lookup) → accepted (load_by st x).answer ≡ true → load_by other x ≡ load_by st x
+  same st other (Ok s) k = refl
+  same st other (Err why) k = absurd (subst T (sym k ∙ not_0 why) tt)
 
   forget : (st other : State) → accepted (step_of sheets st (load_at index)).answer ≡ true → workable other ≡ true
       → step_of sheets other (load_at index) ≡ step_of sheets st (load_at index)
   forget st other k e =
       let here = by_rules sheets st (load_at index) (worked sheets st (load_at index) k) in
-      rw (by_rules sheets other (load_at index) e, here) (same st other (lookup_of sheets index) refl (rw here at k))
+      rw (by_rules sheets other (load_at index) e, here) (same st other (lookup_of sheets index) (rw here at k))
 
   pub load_forgets : LoadForgets sheets index
   load_forgets =
-      record { refusal = λ st e. rw (by_rules sheets st (load_at index) e) (numbered st (lookup_of sheets index) refl); forgets = forget }
+      record { refusal = λ st e. rw (by_rules sheets st (load_at index) e) (numbered st (lookup_of sheets index)); forgets = forget }
 
 -- ---- what the two starts leave: refusal 1 without a sheet, or at a record that the code does not work with
 module _ (sheets : List ℕ) (st : State) where
-  abbrev given : Bool → Loaded → Chart → Stepped
-  given w l chart = cond w (needing_sheet l st (λ (s : Sheet). answered Answer.Done (with_integration st (started chart)))) (refused st 1)
+  abbrev given : Bool → Option Sheet → Chart → Stepped
+  given w l chart = cond w (needing_sheet l st (λ (s : Sheet). answered Answer.Done (with_integration st (started chart)))) (refused st Refusal.NoSheet)
 
-  alike : (w : Bool) (l : Loaded) → (given w l Chart.Short).answer ≡ (given w l Chart.Long).answer
-  alike true Loaded.Nothing = refl
-  alike true (Loaded.One s) = refl
+  alike : (w : Bool) (l : Option Sheet) → (given w l Chart.Short).answer ≡ (given w l Chart.Long).answer
+  alike true None = refl
+  alike true (Some s) = refl
   alike false l = refl
 
-  stays : (w : Bool) (l : Loaded) (chart : Chart) → accepted (given w l chart).answer ≡ false → (given w l chart).state ≡ st
-  stays true Loaded.Nothing chart e = refl
-  stays true (Loaded.One s) chart e = absurd (subst T e tt)
+  stays : (w : Bool) (l : Option Sheet) (chart : Chart) → accepted (given w l chart).answer ≡ false → (given w l chart).state ≡ st
+  stays true None chart e = refl
+  stays true (Some s) chart e = absurd (subst T e tt)
   stays false l chart e = refl
 
-  begun : (w : Bool) (l : Loaded) (chart : Chart) → accepted (given w l chart).answer ≡ true → (given w l chart).state ≡ with_integration st (started chart)
-  begun true Loaded.Nothing chart e = absurd (subst T (sym e) tt)
-  begun true (Loaded.One s) chart e = refl
+  begun : (w : Bool) (l : Option Sheet) (chart : Chart) → accepted (given w l chart).answer ≡ true → (given w l chart).state ≡ with_integration st (started chart)
+  begun true None chart e = absurd (subst T (sym e) tt)
+  begun true (Some s) chart e = refl
   begun false l chart e = absurd (subst T (sym e) tt)
 
   pub starts_alike : StartsAlike sheets st

@@ -9,6 +9,7 @@ ghost use Rattle.engine.specs.Step.{step_of};
 use crate::limits::workable;
 use counting::Chart;
 use events::{area, malformed, sample, start, stop};
+use refusals::Refusal;
 use rules::kinds::{absolute, load, reference, refuse, span, zero};
 use rules::{Entry, Event, State, Stepped};
 
@@ -20,7 +21,7 @@ pub fn step(sheets: &[u8], state: State, entry: Entry) -> Stepped
     ensures { result ≡ step_of sheets.now state entry }
 {
     if !workable(state) {
-        return refuse(state, 1);
+        return refuse(state, Refusal::NoSheet);
     }
     match entry {
         Entry::Known(event) => known(sheets, state, event),

@@ -1,3 +1,2 @@
-pub mod Zero
 pub mod Inverse
 pub mod KindByte

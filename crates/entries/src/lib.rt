@@ -2,7 +2,9 @@
 #![tactic(auto)]
 
 ghost use Rattle.std.specs.Prelude.{◌≡◌, ◌&&◌, eqb};
-ghost use Rattle.entries.specs.Entries.{no_raw, no_cylinder, no_air, no_fields, measured as Entries·measured, known_if, by_kind, entry_of};
+ghost use Rattle.std.specs.Option.{option_map_or};
+ghost use Rattle.rules.specs.declared.Entry.TheVariants.{Known, Malformed};
+ghost use Rattle.entries.specs.Entries.{no_raw, no_cylinder, no_air, no_fields, measured as Entries·measured, entry_of};
 
 use layout::EventRecord;
 use rules::{Entry, Event};
@@ -12,51 +14,35 @@ use sampling::Measurement;
 pub fn entry_of(r: EventRecord) -> Entry
     ensures { result ≡ entry_of r }
 {
-    if r.pad == 0 {
-        by_kind(r)
-    } else {
-        Entry::Malformed(r.kind)
-    }
+    event_of(r).map_or(Entry::Malformed(r.kind), Entry::Known)
 }
 
-// By the kind byte, the three bytes after it being zero.
-fn by_kind(r: EventRecord) -> Entry
-    ensures { result ≡ by_kind r }
+// The event of the record's kind, if the three bytes after the kind are zero, and the fields that the kind lacks.
+#[tactic(auto, unfolding(crate::specs::Entries::entry_of))]
+fn event_of(r: EventRecord) -> Option<Event>
+    ensures { option_map_or (λ e. Known e) result (Malformed r.kind) ≡ entry_of r }
 {
-    let kind = r.kind;
-    match kind {
-        1 => known_if(no_raw(r) & no_air(r), r, Event::Load { index: r.cylinder }),
-        2 => known_if(no_cylinder(r) & no_air(r), r, Event::Zero { raw: r.raw }),
-        3 => Entry::Known(Event::Span {
+    if r.pad != 0 {
+        return None;
+    }
+    match r.kind {
+        1 => (no_raw(r) && no_air(r)).then_some(Event::Load { index: r.cylinder }),
+        2 => (no_cylinder(r) && no_air(r)).then_some(Event::Zero { raw: r.raw }),
+        3 => Some(Event::Span {
             at: measured(r),
             cylinder: r.cylinder,
         }),
-        4 => known_if(
-            reference_only(r),
-            r,
-            Event::Reference {
-                cylinder: r.cylinder,
-                e: r.e,
-            },
-        ),
-        5 => known_if(no_fields(r), r, Event::Absolute),
-        6 => known_if(no_cylinder(r), r, Event::Sample { at: measured(r) }),
-        7 => known_if(no_fields(r), r, Event::Start),
-        8 => known_if(no_fields(r), r, Event::Stop),
-        9 => known_if(no_fields(r), r, Event::Area),
-        10 => known_if(no_fields(r), r, Event::StartShort),
-        _ => Entry::Malformed(kind),
-    }
-}
-
-// The event, if the fields that its kind lacks are zero.
-fn known_if(zero: bool, r: EventRecord, event: Event) -> Entry
-    ensures { result ≡ known_if zero r event }
-{
-    if zero {
-        Entry::Known(event)
-    } else {
-        Entry::Malformed(r.kind)
+        4 => reference_only(r).then_some(Event::Reference {
+            cylinder: r.cylinder,
+            e: r.e,
+        }),
+        5 => no_fields(r).then_some(Event::Absolute),
+        6 => no_cylinder(r).then_some(Event::Sample { at: measured(r) }),
+        7 => no_fields(r).then_some(Event::Start),
+        8 => no_fields(r).then_some(Event::Stop),
+        9 => no_fields(r).then_some(Event::Area),
+        10 => no_fields(r).then_some(Event::StartShort),
+        _ => None,
     }
 }
 
@@ -75,20 +61,20 @@ fn no_cylinder(r: EventRecord) -> bool
 fn no_air(r: EventRecord) -> bool
     ensures { result ≡ no_air r }
 {
-    (r.p == 0) & (r.t == 0) & (r.e == 0)
+    r.p == 0 && r.t == 0 && r.e == 0
 }
 
 // A reference has C and e.
 fn reference_only(r: EventRecord) -> bool
     ensures { result ≡ (no_raw r && eqb r.p 0 && eqb r.t 0) }
 {
-    no_raw(r) & (r.p == 0) & (r.t == 0)
+    no_raw(r) && r.p == 0 && r.t == 0
 }
 
 fn no_fields(r: EventRecord) -> bool
     ensures { result ≡ no_fields r }
 {
-    no_raw(r) & no_cylinder(r) & no_air(r)
+    no_raw(r) && no_cylinder(r) && no_air(r)
 }
 
 fn measured(r: EventRecord) -> Measurement

@@ -1,5 +1,6 @@
 -- Demand 3's distances for one accepted reading: of the wet value in both modes, of the dry value, and of equation (11) at the
 -- reference signal. All come from one lemma, `reading_distance`. Assumes nothing.
+use Rattle.std.specs.Prelude.{Ok}
 use mathlib.Core.Path.{◌≡◌, subst}
 use Prim.Native.Nat.{ℕ, ◌+◌, ◌*◌, ◌-◌, ◌≤◌, ◌<◌}
 use native.Mathlib.Nat.{le_refl, mul-le-mul_right}
@@ -10,7 +11,6 @@ use Rattle.rounding.proofs.Difference.{is_nat, is_add, is_minus, is_scale, is_pa
 use Rattle.rounding.proofs.Approximation.{within_exactly, within_scale, within_near}
 use Rattle.curve.specs.declared.Sheet.{Sheet}
 use Rattle.curve.specs.declared.Air.{Air}
-use Rattle.curve.specs.declared.Reading.TheVariants.{Value}
 use Rattle.curve.specs.Limits.{SheetOk, AirOk}
 use Rattle.curve.specs.Curve.{dry_of}
 use Rattle.curve.specs.Absolute.{absolute_of}
@@ -59,18 +59,18 @@ approx_lies l w = record { lower = l; distance = omega (arith, w.within) }
 module _ (s : Sheet) (okS : SheetOk s) (a : Air) (okA : AirOk a) where
   -- an accepted reading of a signal at most k / 2 from x, for any k, where the exact z of x is at most 3 above 10^8
   pub value_distance : (k : ℕ) {v : ℤ} {x : Fraction} → Approx v x k 2 → 0 < x.den → nat_abs (exact_reduced x a).num ≤ 100000003 * (exact_reduced x a).den
-      → (c : ℤ) → absolute_of s v a ≡ Value c → LiesWithin c (446 + 600 * k) (exact_wet s x a)
+      → (c : ℤ) → absolute_of s v a ≡ Ok c → LiesWithin c (446 + 600 * k) (exact_wet s x a)
   value_distance k {v} {x} w l size c e =
       let h = accepted s v a c e in
       subst (λ (n : ℤ). LiesWithin n (446 + 600 * k) (exact_wet s x a)) h.value
       (approx_lies (wet_lower s okS a okA x l) (wet_within s okS a okA k w l (z_size s a okS okA h) size))
 
-  pub exact_size : (k : ℕ) → k ≤ 2 → {v : ℤ} {x : Fraction} → Approx v x k 2 → (c : ℤ) → absolute_of s v a ≡ Value c
+  pub exact_size : (k : ℕ) → k ≤ 2 → {v : ℤ} {x : Fraction} → Approx v x k 2 → (c : ℤ) → absolute_of s v a ≡ Ok c
       → nat_abs (exact_reduced x a).num ≤ 100000003 * (exact_reduced x a).den
   exact_size k few {v} w c e = exact_z_size a okA k w few (z_size s a okS okA (accepted s v a c e))
 
   -- the one lemma: a signal at most k / 2 from the exact one reads at most 446 + 600 k from the exact value
-  pub reading_distance : (k : ℕ) → k ≤ 2 → {v : ℤ} {x : Fraction} → Approx v x k 2 → 0 < x.den → (c : ℤ) → absolute_of s v a ≡ Value c
+  pub reading_distance : (k : ℕ) → k ≤ 2 → {v : ℤ} {x : Fraction} → Approx v x k 2 → 0 < x.den → (c : ℤ) → absolute_of s v a ≡ Ok c
       → LiesWithin c (446 + 600 * k) (exact_wet s x a)
   reading_distance k few w l c e = value_distance k w l (exact_size k few w c e) c e
 
@@ -87,7 +87,7 @@ module _ (s : Sheet) (okS : SheetOk s) (a : Air) (okA : AirOk a) where
 
   -- ---- a sample
   module _ (raw q : ℤ) (span : ℕ) (c : ℤ) where
-    module _ (e : absolute_of s (signal_of raw q span) a ≡ Value c) where
+    module _ (e : absolute_of s (signal_of raw q span) a ≡ Ok c) where
       absolute_reading : LiesWithin c 1046 (exact_wet s (exact_signal raw q span) a)
       absolute_reading = reading_distance 1 (omega arith) (signal_within raw q span) (signal_lower raw q span) c e
 
@@ -97,7 +97,7 @@ module _ (s : Sheet) (okS : SheetOk s) (a : Air) (okA : AirOk a) where
       pub absolute_dry_distance : LiesWithin (dry_of c a) dry_bound (exact_dry (exact_wet s (exact_signal raw q span) a) a)
       absolute_dry_distance = dry_distance (lies_weaken absolute_reading 1646 (omega arith))
 
-    module _ (r : ℕ) (l : r < s.k) (e : absolute_of s (against_of (signal_of raw q span) r s.k) a ≡ Value c) where
+    module _ (r : ℕ) (l : r < s.k) (e : absolute_of s (against_of (signal_of raw q span) r s.k) a ≡ Ok c) where
       against_reading : LiesWithin c 1646 (exact_wet s (exact_against (exact_signal raw q span) r s.k) a)
       against_reading =
           reading_distance 2 (omega arith) (against_within 1 (signal_within raw q span) r s.k l)
@@ -110,7 +110,7 @@ module _ (s : Sheet) (okS : SheetOk s) (a : Air) (okA : AirOk a) where
       against_dry_distance = dry_distance against_reading
 
   -- ---- equation (11) at a whole signal
-  module _ (v cylinder : ℕ) (c : ℤ) (e : absolute_of s (pos v) a ≡ Value c) where
+  module _ (v cylinder : ℕ) (c : ℤ) (e : absolute_of s (pos v) a ≡ Ok c) where
     whole_distance : LiesWithin c reference_bound (exact_wet s (whole (pos v)) a)
     whole_distance = lies_weaken (reading_distance 0 (omega arith) (within_exactly (pos v) 2) (omega arith) c e) reference_bound (omega arith)
 

@@ -2,6 +2,7 @@
 -- both readings are accepted, their wet values differ by at most 2,400 d + 2,092, against the same reference by at most
 -- 2,400 d + 3,292. Both readings are held against one exact value: the signal of the one is at most 2 d further from the exact
 -- signal of the other. Assumes nothing.
+use Rattle.std.specs.Prelude.{Ok}
 use mathlib.Core.Path.{◌≡◌, ap}
 use Prim.Native.Nat.{ℕ, ◌+◌, ◌*◌, ◌≤◌, ◌<◌}
 use native.Mathlib.Nat.{le_of_mul-le-mul_left, mul-le-mul, mul-le-mul_left}
@@ -12,7 +13,6 @@ use Rattle.rounding.proofs.Integers.{abs_sub, abs_mul}
 use Rattle.rounding.proofs.Nearest.{near_slope}
 use Rattle.curve.specs.declared.Sheet.{Sheet}
 use Rattle.curve.specs.declared.Air.{Air}
-use Rattle.curve.specs.declared.Reading.TheVariants.{Value}
 use Rattle.curve.specs.Limits.{SheetOk, AirOk}
 use Rattle.curve.specs.Curve.{broadening_of, reduced_of}
 use Rattle.curve.specs.Absolute.{absolute_of}
@@ -40,17 +40,17 @@ between {b} {c} {m} {n} {x} g h =
 module _ (s : Sheet) (okS : SheetOk s) (a : Air) (okA : AirOk a) where
   -- of two signals by their distances from one exact signal, the second near to it
   slope : (j k : ℕ) → k ≤ 2 → {u v : ℤ} {x : Fraction} → Approx u x j 2 → Approx v x k 2 → 0 < x.den → (b c : ℤ)
-      → absolute_of s u a ≡ Value b → absolute_of s v a ≡ Value c → nat_abs (b -ℤ c) ≤ 446 + 600 * j + (446 + 600 * k)
+      → absolute_of s u a ≡ Ok b → absolute_of s v a ≡ Ok c → nat_abs (b -ℤ c) ≤ 446 + 600 * j + (446 + 600 * k)
   slope j k few g h l b c p q =
       between (value_distance s okS a okA j g l (exact_size s okS a okA k few h c q) b p) (reading_distance s okS a okA k few h l c q)
 
   module _ (raw other q : ℤ) (span d : ℕ) (l : span ≤ 2000000) (h : nat_abs (raw -ℤ other) ≤ d) (b c : ℤ) where
-    pub absolute_slope : absolute_of s (signal_of raw q span) a ≡ Value b → absolute_of s (signal_of other q span) a ≡ Value c → nat_abs (b -ℤ c) ≤ 2400 * d + 2092
+    pub absolute_slope : absolute_of s (signal_of raw q span) a ≡ Ok b → absolute_of s (signal_of other q span) a ≡ Ok c → nat_abs (b -ℤ c) ≤ 2400 * d + 2092
     absolute_slope p e =
         omega (arith, slope (1 + 4 * d) 1 (omega arith) (moved_within raw other q span d l h) (signal_within other q span) (signal_lower other q span) b c p e)
 
-    pub against_slope : (r : ℕ) → r < s.k → absolute_of s (against_of (signal_of raw q span) r s.k) a ≡ Value b
-        → absolute_of s (against_of (signal_of other q span) r s.k) a ≡ Value c → nat_abs (b -ℤ c) ≤ 2400 * d + 3292
+    pub against_slope : (r : ℕ) → r < s.k → absolute_of s (against_of (signal_of raw q span) r s.k) a ≡ Ok b
+        → absolute_of s (against_of (signal_of other q span) r s.k) a ≡ Ok c → nat_abs (b -ℤ c) ≤ 2400 * d + 3292
     against_slope r m p e =
         let near = against_within (1 + 4 * d) (moved_within raw other q span d l h) r s.k m in
         let own = against_within 1 (signal_within other q span) r s.k m in

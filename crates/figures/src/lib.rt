@@ -8,7 +8,6 @@ ghost use Rattle.text.specs.Line.{decimal};
 ghost use Rattle.figures.specs.Figures.{right, pointed, figure, sign_byte};
 
 use rounding::near;
-use rounding::signed::{below_zero, magnitude};
 use text::{digits, put_byte, put_decimal};
 
 // Puts a value in µmol/mol with two decimals at the right end of 14 columns. The sign is that of the rounded figure, so that what rounds to
@@ -19,14 +18,14 @@ pub fn put_figure(out: &mut [u8], at: usize, x: i64) -> usize
     ensures value { result ≡ at + 14 }
 {
     let hundredths = near(x, 10000);
-    put_hundredths(out, at, sign_of(hundredths), magnitude(hundredths))
+    put_hundredths(out, at, sign_of(hundredths), hundredths.unsigned_abs())
 }
 
 // What stands before the digits.
 fn sign_of(x: i64) -> u8
     ensures { result ≡ sign_byte x }
 {
-    if below_zero(x) { b'-' } else { b' ' }
+    if x < 0 { b'-' } else { b' ' }
 }
 
 // Puts so many hundredths, with their sign's byte before them, at the right end of 14 columns.
@@ -47,8 +46,8 @@ fn put_pointed(out: &mut [u8], at: usize, n: u64) -> usize
 {
     let next = put_decimal(out, at, n / 100);
     let next = put_byte(out, next, b'.');
-    let next = put_byte(out, next, 48 + (n % 100 / 10) as u8);
-    put_byte(out, next, 48 + (n % 10) as u8)
+    let next = put_byte(out, next, b'0' + (n % 100 / 10) as u8);
+    put_byte(out, next, b'0' + (n % 10) as u8)
 }
 
 // Puts an ordinal at the right end of 6 columns.

@@ -1,5 +1,7 @@
 -- The engine without a store answers as the engine with one, and leaves the same state with nothing stored: rule by rule, then over a list.
 -- Assumes nothing.
+use Rattle.refusals.specs.declared.Refusal.{Refusal}
+use Rattle.std.specs.Prelude.{None, Option, Some, Ok, Err}
 use mathlib.Core.Bool.{Bool, true, false, cond, ◌&&◌}
 use mathlib.Core.List.{List, [], ◌∷◌, map}
 use mathlib.Core.Path.{◌≡◌, refl, sym, ap, subst, ◌∙◌}
@@ -11,17 +13,15 @@ use Rattle.counting.specs.declared.Integration.{Integration}
 use Rattle.counting.specs.Integration.{closed_of}
 use Rattle.sampling.specs.declared.Mode.{Mode}
 use Rattle.sampling.specs.declared.Measurement.{Measurement}
-use Rattle.sampling.specs.declared.Sampled.{Sampled}
-use Rattle.sampling.specs.Span.{spanned_refusal, spanned_on}
-use Rattle.sheets.specs.Sheets.{lookup_refusal, lookup_of}
-use Rattle.store.specs.declared.Stored.{Stored}
-use Rattle.rules.specs.declared.Loaded.{Loaded}
+use Rattle.sampling.specs.Sample.{Sampled}
+use Rattle.sampling.specs.Span.{spanned_on, Spanned}
+use Rattle.sheets.specs.Sheets.{lookup_of, Lookup}
 use Rattle.rules.specs.declared.State.{State}
 use Rattle.rules.specs.declared.Event.{Event}
 use Rattle.rules.specs.declared.Entry.{Entry}
 use Rattle.rules.specs.declared.Answer.{Answer}
 use Rattle.rules.specs.declared.Stepped.{Stepped}
-use Rattle.rules.specs.Rules.{answered, refused, needing_sheet, span_in}
+use Rattle.rules.specs.Rules.{answered, refused, needing_sheet, load_by, span_by, span_in}
 use Rattle.events.specs.Sample.{with_stored, storing, sampled_of, searched_for, StoredIsSearched}
 use Rattle.events.specs.Events.{with_integration, sample_by, sample_rule, stop_in, rules}
 use Rattle.events.proofs.Stored.{agrees_in, same_sample}
@@ -32,7 +32,7 @@ use Rattle.ledger.proofs.Demand3.{Kept, kept}
 use Rattle.findings.specs.Searching.{searching_sample, searching_rules, searching_answers, searching_leaves}
 
 abbrev pub emptied : State → State
-emptied st = with_stored st Stored.Empty
+emptied st = with_stored st None
 
 abbrev emptying : Stepped → Stepped
 emptying r = answered r.answer (emptied r.state)
@@ -49,13 +49,21 @@ either true h k = h
 either false h k = k
 
 module _ (sheets : List ℕ) (st : State) where
-  on_sheet : (l : Loaded) {f g : Sheet → Stepped} → ((s : Sheet) → Beside (f s) (g s)) → Beside (needing_sheet l (emptied st) f) (needing_sheet l st g)
-  on_sheet Loaded.Nothing h = here _
-  on_sheet (Loaded.One s) h = h s
+  on_sheet : (l : Option Sheet) {f g : Sheet → Stepped} → ((s : Sheet) → Beside (f s) (g s)) → Beside (needing_sheet l (emptied st) f) (needing_sheet l st g)
+  on_sheet None h = here _
+  on_sheet (Some s) h = h s
+
+  load_by_lem : (x : Lookup) → Beside (load_by (emptied st) x) (load_by st x)
+  load_by_lem (Ok s) = here _
+  load_by_lem (Err why) = here _
+
+  span_by_lem : (x : Spanned) → Beside (span_by (emptied st) x) (span_by st x)
+  span_by_lem (Ok s) = here _
+  span_by_lem (Err why) = here _
 
   span_in_lem : (s : Sheet) (at : Measurement) (cylinder : ℕ) (m : Mode) → Beside (span_in m (emptied st) s at cylinder) (span_in m st s at cylinder)
   span_in_lem s at cylinder (Mode.Against gas) = here _
-  span_in_lem s at cylinder Mode.Absolute = either (eqb (spanned_refusal (spanned_on s st.q at cylinder)) 0) (here _) (here _)
+  span_in_lem s at cylinder Mode.Absolute = span_by_lem (spanned_on s st.q at cylinder)
 
   stop_in_lem : (i : Integration) → Beside (stop_in i (emptied st)) (stop_in i st)
   stop_in_lem Integration.Idle = here _
@@ -63,8 +71,8 @@ module _ (sheets : List ℕ) (st : State) where
   stop_in_lem (Integration.Closed t) = here _
 
   malformed : (t : Bool)
-      → Beside (refused (cond t (with_integration (emptied st) (closed_of st.integration)) (emptied st)) 11)
-      (refused (cond t (with_integration st (closed_of st.integration)) st) 11)
+      → Beside (refused (cond t (with_integration (emptied st) (closed_of st.integration)) (emptied st)) Refusal.Malformed)
+      (refused (cond t (with_integration st (closed_of st.integration)) st) Refusal.Malformed)
   malformed true = here _
   malformed false = here _
 
@@ -76,7 +84,7 @@ module _ (sheets : List ℕ) (st : State) where
       (here (sample_by (storing st at) (sampled_of st at (searched_for st at))))
 
   beside : StoredIsSearched st → (entry : Entry) → Beside (searching_rules sheets (emptied st) entry) (rules sheets st entry)
-  beside h (Entry.Known (Event.Load index)) = either (eqb (lookup_refusal (lookup_of sheets index)) 0) (here _) (here _)
+  beside h (Entry.Known (Event.Load index)) = load_by_lem (lookup_of sheets index)
   beside h (Entry.Known (Event.Zero raw)) = on_sheet st.loaded (λ s. either (leb (nat_abs raw) 20000000) (here _) (here _))
   beside h (Entry.Known (Event.Span at cylinder)) = on_sheet st.loaded (λ s. span_in_lem s at cylinder st.mode)
   beside h (Entry.Known (Event.Reference cylinder e)) = on_sheet st.loaded (λ s. either (leb cylinder 3000000000 && leb e 11500) (here _) (here _))

@@ -4,6 +4,7 @@ use Prim.Native.Nat.{ℕ, ◌≤◌}
 use native.Mathlib.Omega.{arith}
 use mathlib.Core.List.{[], ◌∷◌}
 use mathlib.Core.Path.{◌≡◌}
+use Rattle.std.specs.Prelude.{Option}
 use Rattle.layout.specs.declared.AnswerRecord.{AnswerRecord}
 use Rattle.layout.specs.declared.EventRecord.{EventRecord}
 use Rattle.layout.specs.Records.{answer_bytes}
@@ -30,7 +31,7 @@ module _ (st : State) (event : EventRecord) (next : Stepped) {a : AnswerRecord} 
   lines_are ordinal f = rw (f, record_is)
 
 -- the ground, by its number
-pub grounds_are : (st : State) (entry : Entry) (next : Stepped) {n : ℕ} {g : Ground} → n ≡ ground_number g → g ≡ entry_ground st entry
+pub grounds_are : (st : State) (entry : Entry) (next : Stepped) {n : ℕ} {g : Option Ground} → n ≡ ground_number g → g ≡ entry_ground st entry
     → {form : Form} (ordinal : ℕ) → form ≡ Form.Grounds → emitted form ordinal (line_at st entry next) ≡ n ∷ []
 grounds_are st entry next e g ordinal f = rw (f, e, g)
 

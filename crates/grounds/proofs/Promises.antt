@@ -4,6 +4,7 @@ use mathlib.Core.List.{List}
 use mathlib.Core.Path.{◌≡◌, refl, sym, subst}
 use Prim.Native.Nat.{ℕ}
 use lib.Dec.{T, eqb}
+use Rattle.std.specs.Prelude.{Option, Some, None, is_some}
 use Rattle.rules.specs.declared.State.{State}
 use Rattle.rules.specs.declared.Entry.{Entry}
 use Rattle.rules.specs.declared.Entry.TheVariants.{Known, Malformed}
@@ -12,11 +13,11 @@ use Rattle.rules.specs.Answer.{refusal_of}
 use Rattle.engine.specs.Step.{step_of}
 use Rattle.grounds.specs.declared.Ground.{Ground}
 use Rattle.grounds.specs.Grounds.{entry_ground}
-use Rattle.grounds.specs.Promises.{is_named, EveryGround}
+use Rattle.grounds.specs.Promises.{EveryGround}
 use Rattle.grounds.proofs.Samples.{named_sample, passed_sample}
 use Rattle.grounds.proofs.Others.{not_8, malformed_11}
 
-pub exactly : (sheets : List ℕ) (st : State) (entry : Entry) → is_named (entry_ground st entry) ≡ eqb (refusal_of (step_of sheets st entry).answer) 8
+pub exactly : (sheets : List ℕ) (st : State) (entry : Entry) → is_some (entry_ground st entry) ≡ eqb (refusal_of (step_of sheets st entry).answer) 8
 exactly sheets st (Known (Load index)) = sym (not_8 sheets st (Known (Load index)) refl)
 exactly sheets st (Known (Zero raw)) = sym (not_8 sheets st (Known (Zero raw)) refl)
 exactly sheets st (Known (Span at cylinder)) = sym (not_8 sheets st (Known (Span at cylinder)) refl)
@@ -33,12 +34,9 @@ pub every_ground : EveryGround
 every_ground = record { exactly = exactly; passed = passed_sample }
 
 -- without an answer of 8 there is none
-pub unnamed : (sheets : List ℕ) (st : State) (entry : Entry) → eqb (refusal_of (step_of sheets st entry).answer) 8 ≡ false → entry_ground st entry ≡ Ground.Nothing
+pub unnamed : (sheets : List ℕ) (st : State) (entry : Entry) → eqb (refusal_of (step_of sheets st entry).answer) 8 ≡ false → entry_ground st entry ≡ None
 unnamed sheets st entry e = go (entry_ground st entry) (rw (← exactly sheets st entry) at e)
   where
-    go : (g : Ground) → is_named g ≡ false → g ≡ Ground.Nothing
-    go Ground.Nothing h = refl
-    go Ground.SignalHigh h = absurd (subst T h tt)
-    go Ground.SignalAtK h = absurd (subst T h tt)
-    go Ground.ReducedHigh h = absurd (subst T h tt)
-    go Ground.WetHigh h = absurd (subst T h tt)
+    go : (g : Option Ground) → is_some g ≡ false → g ≡ None
+    go None h = refl
+    go (Some g) h = absurd (subst T h tt)

@@ -1,22 +1,24 @@
 -- The first ground of a signal beside its absolute reading: it says what the tests say, and one is named exactly where the reading is over range;
 -- where a reading is over range and the first three tests fail, the last holds. Assumes nothing.
+use Rattle.std.specs.Prelude.{Err, Ok}
 use mathlib.Core.Bool.{Bool, true, false, cond}
 use mathlib.Core.Path.{◌≡◌, refl}
 use Prim.Native.Nat.{ℕ}
 use native.Mathlib.Omega.{arith}
 use lib.Dec.{eqb}
 use lib.IntN.{ℤ, pos}
+use Rattle.std.specs.Prelude.{Option, Some, None, is_some}
 use Rattle.rounding.proofs.Tests.{lt_true, lt_false, le_true, le_false}
 use Rattle.curve.specs.declared.Sheet.{Sheet}
 use Rattle.curve.specs.declared.Air.{Air}
-use Rattle.curve.specs.declared.Reading.{Reading}
-use Rattle.curve.specs.declared.Reading.TheVariants.{Value, BelowZero, OverRange}
+use Rattle.curve.specs.Reading.{Reading}
+use Rattle.curve.specs.declared.OutOfRange.TheVariants.{BelowZero, OverRange}
 use Rattle.curve.specs.Curve.{reduced_of, wet_of}
 use Rattle.curve.specs.Absolute.{reading_refusal, signal_low, signal_high, signal_at_k, reduced_high, wet_high, unless_over, absolute_of}
 use Rattle.curve.proofs.Accepted.{not_value}
 use Rattle.grounds.specs.declared.Ground.{Ground}
 use Rattle.grounds.specs.Grounds.{first_ground, ground_at}
-use Rattle.grounds.specs.Promises.{is_named, Passed}
+use Rattle.grounds.specs.Promises.{Passed}
 
 module _ (s : Sheet) (v : ℤ) (a : Air) where
   abbrev z : ℤ
@@ -28,11 +30,11 @@ module _ (s : Sheet) (v : ℤ) (a : Air) where
   -- the reading and the ground, by their tests
   abbrev reads : Bool → Bool → Bool → Bool → Bool → Reading
   reads low high at_k reduced wet =
-      cond low BelowZero (unless_over high (unless_over at_k (unless_over reduced (unless_over wet (Value c)))))
+      cond low (Err BelowZero) (unless_over high (unless_over at_k (unless_over reduced (unless_over wet (Ok c)))))
 
-  abbrev first : Bool → Bool → Bool → Bool → Ground
+  abbrev first : Bool → Bool → Bool → Bool → Option Ground
   first high at_k reduced wet =
-      cond high Ground.SignalHigh (cond at_k Ground.SignalAtK (cond reduced Ground.ReducedHigh (cond wet Ground.WetHigh Ground.Nothing)))
+      cond high (Some Ground.SignalHigh) (cond at_k (Some Ground.SignalAtK) (cond reduced (Some Ground.ReducedHigh) (cond wet (Some Ground.WetHigh) None)))
 
   passed_first : Passed s v a (first_ground s v a)
   unfolding first_ground
@@ -49,15 +51,15 @@ module _ (s : Sheet) (v : ℤ) (a : Air) where
   pub passed_at : Passed s v a (ground_at s v a)
   passed_at = go (signal_low v)
     where
-      go : (l : Bool) → Passed s v a (cond l Ground.Nothing (first_ground s v a))
+      go : (l : Bool) → Passed s v a (cond l None (first_ground s v a))
       go true = tt
       go false = passed_first
 
-  pub named_at : is_named (ground_at s v a) ≡ eqb (reading_refusal (absolute_of s v a)) 8
+  pub named_at : is_some (ground_at s v a) ≡ eqb (reading_refusal (absolute_of s v a)) 8
   unfolding first_ground absolute_of
   named_at = go (signal_low v) (signal_high v) (signal_at_k s v) (reduced_high z) (wet_high c)
     where
-      go : (l h k r w : Bool) → is_named (cond l Ground.Nothing (first h k r w)) ≡ eqb (reading_refusal (reads l h k r w)) 8
+      go : (l h k r w : Bool) → is_some (cond l None (first h k r w)) ≡ eqb (reading_refusal (reads l h k r w)) 8
       go true h k r w = refl
       go false true k r w = refl
       go false false true r w = refl
@@ -66,12 +68,12 @@ module _ (s : Sheet) (v : ℤ) (a : Air) where
       go false false false false false = refl
 
   -- ---- what the tests say where the reading is over range
-  module _ (e : absolute_of s v a ≡ OverRange) where
+  module _ (e : absolute_of s v a ≡ (Err OverRange)) where
     pub not_low : signal_low v ≡ false
     unfolding absolute_of
     not_low = go (signal_low v) e
       where
-        go : (l : Bool) → reads l (signal_high v) (signal_at_k s v) (reduced_high z) (wet_high c) ≡ OverRange → l ≡ false
+        go : (l : Bool) → reads l (signal_high v) (signal_at_k s v) (reduced_high z) (wet_high c) ≡ Err OverRange → l ≡ false
         go true q = let n : ◌≡◌ {A = ℕ} 0 1 = cc in absurd (omega arith)
         go false q = refl
 
@@ -79,6 +81,6 @@ module _ (s : Sheet) (v : ℤ) (a : Air) where
     unfolding absolute_of
     the_last h k r = go (wet_high c) (rw (not_low, h, k, r) at e)
       where
-        go : (w : Bool) → unless_over w (Value c) ≡ OverRange → w ≡ true
+        go : (w : Bool) → unless_over w (Ok c) ≡ Err OverRange → w ≡ true
         go true q = refl
-        go false q = absurd (not_value (Value c) c refl q)
+        go false q = absurd (not_value (Ok c) c refl q)

@@ -6,29 +6,22 @@ ghost use Rattle.grounds.specs.Grounds.{ground_number};
 
 pub mod naming;
 
-// The four grounds of refusal 8 in document 02's order, or none.
+// The four grounds of refusal 8, each with its number in document 02's order.
 #[derive(Clone, Copy)]
 pub enum Ground {
-    Nothing,
     // The signal is above 150,000,000.
-    SignalHigh,
+    SignalHigh = 1,
     // The signal is at or above K.
-    SignalAtK,
+    SignalAtK = 2,
     // z, the signal reduced to P0 and dry air, is above 10^8.
-    ReducedHigh,
+    ReducedHigh = 3,
     // The wet value is above 3,000,000,000.
-    WetHigh,
+    WetHigh = 4,
 }
 
 // The number of a ground, 0 for none.
-pub fn number_of(g: Ground) -> u8
+pub fn number_of(g: Option<Ground>) -> u8
     ensures { result ≡ ground_number g }
 {
-    match g {
-        Ground::Nothing => 0,
-        Ground::SignalHigh => 1,
-        Ground::SignalAtK => 2,
-        Ground::ReducedHigh => 3,
-        Ground::WetHigh => 4,
-    }
+    g.map_or(0, |ground| ground as u8)
 }

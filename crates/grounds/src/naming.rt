@@ -1,11 +1,11 @@
 // The ground of a sample. The engine is asked, and where it answers with 8 its tests are made again in their order, to see which was the first that
 // held.
-ghost use Rattle.std.specs.Prelude.{◌≡◌, true, ◌≤◌, eqb, nat_abs};
+ghost use Rattle.std.specs.Prelude.{◌≡◌, true, ◌≤◌, eqb, nat_abs, Err};
 ghost use Rattle.curve.specs.Limits.{SheetOk, AirOk};
-ghost use Rattle.curve.specs.declared.Reading.{Reading};
+ghost use Rattle.curve.specs.declared.OutOfRange.{OutOfRange};
 ghost use Rattle.curve.specs.Absolute.{absolute_of};
 ghost use Rattle.reference.specs.Search.{found_value};
-ghost use Rattle.sampling.specs.declared.Sampled.{Sampled};
+ghost use Rattle.refusals.specs.declared.Refusal.{Refusal};
 ghost use Rattle.sampling.specs.Sample.{signal_read};
 ghost use Rattle.rules.specs.Answer.{refusal_of};
 ghost use Rattle.rules.specs.Limits.{loaded_within};
@@ -17,78 +17,57 @@ use crate::Ground;
 use curve::steps::reduced;
 use curve::{Air, Sheet};
 use engine::step;
-use reference::Found;
 use reference::signal::{against, from_raw};
-use rounding::signed::{above, at_least};
-use rounding::widths::wide;
-use rules::{Answer, Entry, Event, Loaded, State, Stepped};
+use refusals::Refusal;
+use rules::{Answer, Entry, Event, State, Stepped};
 use sampling::{Measurement, Mode, air_of};
 use store::finding_in;
 
 // The ground on which the engine would refuse a sample with 8 at this state, or none.
-pub fn ground(st: State, at: Measurement) -> Ground
+pub fn ground(st: State, at: Measurement) -> Option<Ground>
     ensures { result ≡ ground_of st at }
 {
     // A sample sees no sheets.
-    let sheets = [0; 24];
     let entry = Entry::Known(Event::Sample { at });
-    ground_of(st, entry, step(&sheets, st, entry))
+    ground_of(st, entry, step(&[], st, entry))
 }
 
 // The same of an entry that was stepped already, as a run over a file has it. What the sample went by is in the state after it: what is set stays, and
 // the finding stands stored. The state before it is there for the contract alone, so that the compiled run need not keep it.
-pub fn ground_of(st: State, entry: Entry, next: Stepped) -> Ground
+pub fn ground_of(st: State, entry: Entry, next: Stepped) -> Option<Ground>
     requires { SteppedBy st entry next }
     ensures { result ≡ entry_ground st entry }
 {
-    let answer = next.answer;
-    let after = next.state;
-    let stored = after.stored;
-    if !over_range(answer) {
-        return Ground::Nothing;
+    if !over_range(next.answer) {
+        return None;
     }
-    let Entry::Known(event) = entry else {
-        return Ground::Nothing;
+    let Entry::Known(Event::Sample { at }) = entry else {
+        return None;
     };
-    let Event::Sample { at } = event else {
-        return Ground::Nothing;
-    };
-    named(after, at, finding_in(stored))
+    let after = next.state;
+    named(after, at, finding_in(after.stored))
 }
 
 fn over_range(a: Answer) -> bool
     ensures { result ≡ eqb (refusal_of a) 8 }
 {
-    match a {
-        Answer::Done => false,
-        Answer::Zeroed(_) => false,
-        Answer::Spanned(_) => false,
-        Answer::Reading {
-            r: _,
-            wet: _,
-            dry: _,
-        } => false,
-        Answer::Area { n: _, area: _ } => false,
-        Answer::Refused(number) => number == 8,
-    }
+    matches!(a, Answer::Refused(Refusal::OverRange))
 }
 
 // The ground of a sample that is refused with 8, with what it went by.
-fn named(st: State, at: Measurement, finding: Found) -> Ground
-    requires { (loaded_within st.loaded ≡ true) × (nat_abs st.q ≤ 20000000) × (st.s ≤ 2000000) × (sampled_of st at finding ≡ Sampled.Refused 8) × (found_value finding ≤ 150000000) }
+fn named(st: State, at: Measurement, finding: Option<u64>) -> Option<Ground>
+    requires { (loaded_within st.loaded ≡ true) × (nat_abs st.q ≤ 20000000) × (st.s ≤ 2000000) × (sampled_of st at finding ≡ Err Refusal.OverRange) × (found_value finding ≤ 150000000) }
     ensures { result ≡ ground_under st.loaded st.q st.s st.mode at finding }
 {
-    let loaded = st.loaded;
-    let mode = st.mode;
-    let Loaded::One(s) = loaded else {
-        return Ground::Nothing;
+    let Some(s) = st.loaded else {
+        return None;
     };
-    let v = from_raw(wide(at.raw), st.q, st.s);
-    first_ground(s, signal(s, mode, finding, v), air_of(at))
+    let v = from_raw(i64::from(at.raw), st.q, st.s);
+    first_ground(s, signal(s, st.mode, finding, v), air_of(at))
 }
 
 // The signal that is read: v itself, or against what was found for the reference.
-fn signal(s: Sheet, mode: Mode, finding: Found, v: i64) -> i64
+fn signal(s: Sheet, mode: Mode, finding: Option<u64>, v: i64) -> i64
     requires { SheetOk s × (found_value finding ≤ 150000000) × (nat_abs v ≤ 340000000) }
     ensures { result ≡ signal_read s mode finding v }
 {
@@ -96,24 +75,24 @@ fn signal(s: Sheet, mode: Mode, finding: Found, v: i64) -> i64
         return v;
     };
     match finding {
-        Found::At(r) => against(v, r, s.k),
-        Found::Nothing => against(v, 0, s.k),
+        Some(r) => against(v, r, s.k),
+        None => against(v, 0, s.k),
     }
 }
 
 // The first ground that holds of a signal that is refused with 8: where the first three do not, it is the last.
-fn first_ground(s: Sheet, v: i64, a: Air) -> Ground
-    requires { SheetOk s × AirOk a × (absolute_of s v a ≡ Reading.OverRange) }
+fn first_ground(s: Sheet, v: i64, a: Air) -> Option<Ground>
+    requires { SheetOk s × AirOk a × (absolute_of s v a ≡ Err OutOfRange.OverRange) }
     ensures { result ≡ first_ground s v a }
 {
-    if above(v, 150000000) {
-        return Ground::SignalHigh;
+    if v > 150000000 {
+        return Some(Ground::SignalHigh);
     }
-    if at_least(v, s.k) {
-        return Ground::SignalAtK;
+    if v >= s.k as i64 {
+        return Some(Ground::SignalAtK);
     }
-    if above(reduced(v, a), 100000000) {
-        return Ground::ReducedHigh;
+    if reduced(v, a) > 100000000 {
+        return Some(Ground::ReducedHigh);
     }
-    Ground::WetHigh
+    Some(Ground::WetHigh)
 }

@@ -1,17 +1,18 @@
 // The functions that C calls. A slice is a pointer and a length; none of them asks anything of what it is lent.
 ghost use Rattle.std.specs.Prelude.{◌≡◌, get_or};
+ghost use Rattle.layout.specs.Ended.{status_of, written_of};
 ghost use Rattle.forms.specs.declared.Form.{Form};
 ghost use Rattle.answers.specs.Run.{FillsAs};
 ghost use Rattle.packing.specs.Write.{FillsPacked};
 ghost use Rattle.page.specs.Page.{FillsPage};
-ghost use Rattle.doubles.specs.Doubles.{host_refusal, host_values, host_sample_in, host_area_in};
+ghost use Rattle.doubles.specs.Doubles.{host_refusal, reading_values, area_values, host_sample_in, host_area_in};
 ghost use Rattle.recorder.specs.Recorder.{packed_refusal, packed_word};
 ghost use Rattle.pens.specs.Pens.{pack_for, unpack_for, unpacked_refusal, code_left, channel_left};
 
 use answers::{fill, run};
-use doubles::HostAnswer;
 use doubles::answers::{area_in, sample_in};
 use forms::Form;
+use layout::TurnedAway;
 use packing::write_records;
 use page::page;
 use pens::{pack_into, unpack_into};
@@ -23,9 +24,7 @@ use printing::lines;
 pub extern "C" fn irga_run(file: &[u8], out: &mut [u8], written: &mut usize) -> u8
     ensures { FillsAs Form.Records file.now out.old result written.new out.new }
 {
-    let ran = run(file, out);
-    *written = ran.written;
-    ran.status
+    told(run(file, out), written)
 }
 
 // Puts the printed lines of a session file into `out`: 0, or refusal 12 or 13, which leaves `out` as it was. `written` becomes the
@@ -34,9 +33,7 @@ pub extern "C" fn irga_run(file: &[u8], out: &mut [u8], written: &mut usize) -> 
 pub extern "C" fn irga_lines(file: &[u8], out: &mut [u8], written: &mut usize) -> u8
     ensures { FillsAs Form.Lines file.now out.old result written.new out.new }
 {
-    let put = lines(file, out);
-    *written = put.written;
-    put.status
+    told(lines(file, out), written)
 }
 
 // Puts the page for the lab book of a session file into `out`, with a header line at every so many sample lines: 0, or 12, 16 or 17, which
@@ -45,9 +42,7 @@ pub extern "C" fn irga_lines(file: &[u8], out: &mut [u8], written: &mut usize) -
 pub extern "C" fn irga_page(file: &[u8], every: u32, out: &mut [u8], written: &mut usize) -> u8
     ensures { FillsPage file.now every out.old result written.new out.new }
 {
-    let made = page(file, every, out);
-    *written = made.written;
-    made.status
+    told(page(file, every, out), written)
 }
 
 // Puts the ground of each event of a session file into `out`, a byte each: 1 to 4 where a run answers the event with 8, and 0 elsewhere. Answers 0, or
@@ -56,30 +51,41 @@ pub extern "C" fn irga_page(file: &[u8], every: u32, out: &mut [u8], written: &m
 pub extern "C" fn irga_grounds(file: &[u8], out: &mut [u8], written: &mut usize) -> u8
     ensures { FillsAs Form.Grounds file.now out.old result written.new out.new }
 {
-    let named = fill(Form::Grounds, file, out);
-    *written = named.written;
-    named.status
+    told(fill(Form::Grounds, file, out), written)
+}
+
+// What a host is told of how a tool ended: the status, with the count of bytes that it wrote.
+fn told(ended: Result<usize, TurnedAway>, written: &mut usize) -> u8
+    ensures { (result ≡ status_of ended) × (written.new ≡ written_of ended) }
+{
+    match ended {
+        Ok(count) => {
+            *written = count;
+            0
+        }
+        Err(away) => {
+            *written = 0;
+            away.number()
+        }
+    }
 }
 
 // The answer to a sample, from its 24 bytes: 0 with wet, dry and signal, or a refusal, which leaves all three as they were.
 #[unsafe(no_mangle)]
 pub extern "C" fn irga_reading(answer: &[u8], wet: &mut f64, dry: &mut f64, signal: &mut f64) -> u8
     ensures value { result ≡ host_refusal (host_sample_in answer.now) }
-    ensures wet_after { wet.new ≡ get_or (host_values (host_sample_in answer.now)) 0 wet.old }
-    ensures dry_after { dry.new ≡ get_or (host_values (host_sample_in answer.now)) 1 dry.old }
-    ensures signal_after { signal.new ≡ get_or (host_values (host_sample_in answer.now)) 2 signal.old }
+    ensures wet_after { wet.new ≡ get_or (reading_values (host_sample_in answer.now)) 0 wet.old }
+    ensures dry_after { dry.new ≡ get_or (reading_values (host_sample_in answer.now)) 1 dry.old }
+    ensures signal_after { signal.new ≡ get_or (reading_values (host_sample_in answer.now)) 2 signal.old }
 {
-    let got = sample_in(answer);
-    match got {
-        HostAnswer::Reading(d) => {
+    match sample_in(answer) {
+        Ok(d) => {
             *wet = d.wet;
             *dry = d.dry;
             *signal = d.signal;
             0
         }
-        // No sample is answered so.
-        HostAnswer::Area(_) => 11,
-        HostAnswer::Refused(number) => number,
+        Err(refused) => refused.number,
     }
 }
 
@@ -87,17 +93,14 @@ pub extern "C" fn irga_reading(answer: &[u8], wet: &mut f64, dry: &mut f64, sign
 #[unsafe(no_mangle)]
 pub extern "C" fn irga_area(answer: &[u8], area: &mut f64) -> u8
     ensures value { result ≡ host_refusal (host_area_in answer.now) }
-    ensures area_after { area.new ≡ get_or (host_values (host_area_in answer.now)) 0 area.old }
+    ensures area_after { area.new ≡ get_or (area_values (host_area_in answer.now)) 0 area.old }
 {
-    let got = area_in(answer);
-    match got {
-        HostAnswer::Area(v) => {
+    match area_in(answer) {
+        Ok(v) => {
             *area = v;
             0
         }
-        // No area event is answered so.
-        HostAnswer::Reading(_) => 11,
-        HostAnswer::Refused(number) => number,
+        Err(refused) => refused.number,
     }
 }
 
@@ -112,9 +115,7 @@ pub extern "C" fn irga_write(
 ) -> u8
     ensures { FillsPacked sheets.now events.now out.old result written.new out.new }
 {
-    let done = write_records(sheets, events, out);
-    *written = done.written;
-    done.status
+    told(write_records(sheets, events, out), written)
 }
 
 // The word that moves a chart recorder's pen to a value, on a scale from low to high: 0, or 18, and then the word is 0. Kind 0 is voltage and 1

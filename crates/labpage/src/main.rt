@@ -3,10 +3,9 @@
 // cases in both modes, and `stdout` the page that the paper's values make.
 #![tactic(auto)]
 
-ghost use Rattle.std.specs.Prelude.{◌≡◌};
-ghost use Rattle.labpage.specs.Number.{chosen_of, number_said, follows as Number·follows};
+ghost use Rattle.std.specs.Prelude.{◌≡◌, ◌+◌, ◌*◌, ◌-◌, cond, Some, None};
+ghost use Rattle.labpage.specs.Number.{chosen_of, number_from, follows};
 
-use curve::limits::within;
 use std::env::FillError;
 use std::io;
 use std::process::ExitCode;
@@ -17,25 +16,21 @@ fn main(rt: HostRuntime) -> ExitCode {
     // Where there is no argument, or a longer one, nothing of the word counts.
     let mut word = [0u8; 16];
     let k = rt.arg(1, &mut word).unwrap_or(0);
-    let every = chosen(arg_count(&rt), &word[..k]);
-    if every == 0 {
+    let Some(every) = chosen(arg_count(&rt), &word[..k]) else {
         let _ = eprintln!(rt;
             "labpage: the one argument is the number of sample lines under a header, 1 to 999"
         );
         return ExitCode::SUCCESS;
-    }
+    };
     // Longer than any session, so that a longer input is seen to be longer.
     let mut input = [0u8; 65537];
     let n = read_full(&mut rt.stdin(), &mut input);
     let mut text = [0u8; 394054];
-    let made = page::page(&input[..n], every, &mut text);
-    let status = made.status;
-    // The number is within its limits and no page is longer than the buffer, so 12 is the one number left.
-    if status != 0 {
+    // The number is within its limits and no page is longer than the buffer, so only a file that is no session has none.
+    let Ok(written) = page::page(&input[..n], every, &mut text) else {
         let _ = eprintln!(rt; "labpage: the input is not a session file");
         return ExitCode::SUCCESS;
-    }
-    let written = made.written;
+    };
     match rt.write_all(&text[..written]) {
         Ok(()) => ExitCode::SUCCESS,
         Err(e) => unwritten(&rt, e),
@@ -69,46 +64,42 @@ fn say_why(rt: &(impl Eprint + Alloc), e: &io::Error) -> io::Result<()> {
 
 // The system's words for an error, without the number that std puts after them.
 fn words_of(text: &str) -> &str {
-    match text.rsplit_once(" (os error ") {
-        Some((words, _)) => words,
-        None => text,
-    }
+    text.rsplit_once(" (os error ")
+        .map_or(text, |(words, _)| words)
 }
 
-// How many sample lines are wanted under a header line, by the count of arguments, the program's own name among them, and the one after it:
-// 0 where they do not say it.
-fn chosen(count: usize, word: &[u8]) -> u32
+// How many sample lines are wanted under a header line, by the count of arguments, the program's own name among them, and the one after it, if
+// they say it.
+#[tactic(auto, unfolding(crate::specs::Number::chosen_of))]
+fn chosen(count: usize, word: &[u8]) -> Option<u32>
     ensures { result ≡ chosen_of count word.now }
 {
-    if count < 2 {
-        return 40;
+    match count {
+        0 | 1 => Some(40),
+        2 => number(word).filter(|every| *every > 0),
+        _ => None,
     }
-    if 2 < count {
-        return 0;
-    }
-    number(word)
 }
 
-// What digits say, up to 999; of anything else 0.
-fn number(word: &[u8]) -> u32
-    ensures { result ≡ number_said word.now }
+// What digits say, up to 999.
+fn number(word: &[u8]) -> Option<u32>
+    ensures { result ≡ number_from 0 word.now }
 {
-    let mut n: u32 = 0;
-    let mut i = 0;
-    while i < word.len() {
-        let b = word[i];
-        if !follows(n, b) {
-            return 0;
-        }
-        n = 10 * n + (b - b'0') as u32;
-        i += 1;
+    let mut n = 0;
+    for b in word {
+        n = with_digit(n, *b)?;
     }
-    n
+    Some(n)
 }
 
-// Whether a byte is a digit that may follow the number before it.
-fn follows(n: u32, b: u8) -> bool
-    ensures { result ≡ Number·follows n b }
+// A number with one digit more, if the byte is a digit and the number stays below 1000.
+#[tactic(auto, unfolding(crate::specs::Number::follows))]
+fn with_digit(n: u32, b: u8) -> Option<u32>
+    ensures { result ≡ cond (follows n b) (Some (10 * n + (b - 48))) None }
 {
-    n <= 99 && within(48, 57, b as u64)
+    if n <= 99 && b.is_ascii_digit() {
+        Some(10 * n + u32::from(b - b'0'))
+    } else {
+        None
+    }
 }

@@ -8,7 +8,9 @@ use mathlib.Core.Path.{◌≡◌, refl, sym, ◌∙◌}
 use borrow.Author.Tests.{eqb-true, ne_eqb}
 use lib.Dec.{eqb}
 use lib.ListN.{length, length-append, length-take, length-drop}
+use Rattle.layout.specs.declared.TurnedAway.{TurnedAway}
 use Rattle.layout.specs.Lent.{Puts, Fills}
+use Rattle.layout.specs.Ended.{number_of}
 use Rattle.fields.proofs.Splices.{splice_none, next, over}
 
 pub puts_none : (old : List ℕ) (at : ℕ) → at ≤ length old → Puts old at [] old at
@@ -58,6 +60,16 @@ module _ {due : ℕ} {bytes old : List ℕ} {status : ℕ} (e : status ≡ due) 
       let d : due ≡ 0 = sym e ∙ z in
       let w = p.ends in let r = p.room in
       record { ended = e; counted = rw d (omega arith); stands = rw d p.stands; room = λ _. omega arith }
+
+-- one that turns away has a number that is not 0
+pub numbered : (away : TurnedAway) → number_of away ≡ 0 → ⊥
+numbered TurnedAway.Malformed z = absurd (omega arith)
+numbered TurnedAway.NoSession z = absurd (omega arith)
+numbered TurnedAway.NoRoomForAnswers z = absurd (omega arith)
+numbered TurnedAway.TooMany z = absurd (omega arith)
+numbered TurnedAway.NoRoomForFile z = absurd (omega arith)
+numbered TurnedAway.NoSuchNumber z = absurd (omega arith)
+numbered TurnedAway.NoRoomForPage z = absurd (omega arith)
 
 -- and what that tells
 module _ {due : ℕ} {bytes old : List ℕ} {status written : ℕ} {out : List ℕ} (f : Fills due bytes old status written out) where

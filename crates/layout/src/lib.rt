@@ -1,6 +1,9 @@
-// The records of document 01's session file as bytes: numbers at fixed places, the lowest byte first, 24 bytes a record. And how a tool
-// ends that fills a lent buffer.
+// The records of document 01's session file as bytes: numbers at fixed places, the lowest byte first, 24 bytes a record. And why a tool
+// that fills a lent buffer may turn away what it was lent.
 #![tactic(auto)]
+
+ghost use Rattle.std.specs.Prelude.{◌≡◌};
+ghost use Rattle.layout.specs.Ended.{number_of};
 
 pub mod records;
 
@@ -40,10 +43,38 @@ pub struct AnswerRecord {
     pub y: i64,
 }
 
-// How a tool ended that fills a lent buffer: 0, or the number with which it was turned away; and how many bytes it wrote from the buffer's
-// start.
-#[derive(Clone, Copy)]
-pub struct Filled {
-    pub status: u8,
-    pub written: usize,
+// Why a tool that fills a lent buffer turned away what it was lent.
+#[derive(Clone, Copy, PartialEq, Eq)]
+pub enum TurnedAway {
+    // A record is not as it must be.
+    Malformed,
+    // No session file: its header or its length is not accepted.
+    NoSession,
+    // The buffer is too short for the answers.
+    NoRoomForAnswers,
+    // More sheets or events than a session may have.
+    TooMany,
+    // The buffer is too short for the file.
+    NoRoomForFile,
+    // No number of sample lines that a header line may have under it.
+    NoSuchNumber,
+    // The buffer is too short for the page.
+    NoRoomForPage,
+}
+
+impl TurnedAway {
+    // The number that a host has for it.
+    pub fn number(self) -> u8
+        ensures { result ≡ number_of self }
+    {
+        match self {
+            TurnedAway::Malformed => 11,
+            TurnedAway::NoSession => 12,
+            TurnedAway::NoRoomForAnswers => 13,
+            TurnedAway::TooMany => 14,
+            TurnedAway::NoRoomForFile => 15,
+            TurnedAway::NoSuchNumber => 16,
+            TurnedAway::NoRoomForPage => 17,
+        }
+    }
 }

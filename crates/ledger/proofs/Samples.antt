@@ -1,5 +1,6 @@
 -- What an accepted sample is worth: its wet and dry value beside the exact ones, and equation (11) at its reference signal. Assumes
 -- nothing.
+use Rattle.std.specs.Prelude.{None, Option, Some}
 use mathlib.Core.Bool.{Bool, true}
 use mathlib.Core.List.{List}
 use mathlib.Core.Path.{◌≡◌, refl, ap, subst}
@@ -10,7 +11,6 @@ use Rattle.rounding.proofs.Difference.{is_nat, of_lt}
 use Rattle.curve.specs.declared.Sheet.{Sheet}
 use Rattle.curve.specs.Limits.{SheetOk, AirOk}
 use Rattle.curve.proofs.Accepted.{accepted}
-use Rattle.reference.specs.declared.Found.{Found}
 use Rattle.reference.specs.Search.{reference_refusal, found_value, reference_of}
 use Rattle.reference.proofs.Bracket.{at_reference, below_reference}
 use Rattle.exact.specs.Fraction.{Fraction, LiesWithin}
@@ -23,7 +23,6 @@ use Rattle.sampling.specs.declared.Measurement.{Measurement}
 use Rattle.sampling.specs.Sample.{air_of, reference_air, searched_of}
 use Rattle.sampling.proofs.Within.{input_ok, reference_air_ok}
 use Rattle.sampling.proofs.Inversion.{AcceptedOn}
-use Rattle.rules.specs.declared.Loaded.{Loaded}
 use Rattle.rules.specs.declared.State.{State}
 use Rattle.rules.specs.Limits.{loaded_within}
 use Rattle.rules.proofs.Workable.{sheet_in}
@@ -42,12 +41,12 @@ pub record Worth (g : Ledger) (at : Measurement) (r : ℕ) (wet dry : ℤ) : Typ
   pub near : LiesWithin wet against_bound (exact_value g at r)
 
 -- ---- the reference signal that is answered
-found_at : (f : Found) (r : ℕ) → reference_refusal f ≡ 0 → r ≡ found_value f → f ≡ Found.At r
-found_at (Found.At n) r e q = cc
-found_at Found.Nothing r e q = absurd (omega arith)
+found_at : (f : Option ℕ) (r : ℕ) → reference_refusal f ≡ 0 → r ≡ found_value f → f ≡ Some r
+found_at (Some n) r e q = cc
+found_at None r e q = absurd (omega arith)
 
 module _ (s : Sheet) (okS : SheetOk s) (at : Measurement) (gas : Cylinder) (okR : AirOk (reference_air (air_of at) gas)) (r : ℕ)
-    (f : reference_of s gas.c (reference_air (air_of at) gas) ≡ Found.At r) where
+    (f : reference_of s gas.c (reference_air (air_of at) gas) ≡ Some r) where
   signal_at_lem : AtSignal s gas at r
   signal_at_lem =
       let a = reference_air (air_of at) gas in
@@ -55,7 +54,7 @@ module _ (s : Sheet) (okS : SheetOk s) (at : Measurement) (gas : Cylinder) (okR 
       record {
         here = reference_at_least s okS a okR r gas.c h.c h.value h.high;
         below = λ v e.
-            let l = below_reference s a gas.c okS okR v (subst (λ (n : ℕ). reference_of s gas.c a ≡ Found.At n) e f) in
+            let l = below_reference s a gas.c okS okR v (subst (λ (n : ℕ). reference_of s gas.c a ≡ Some n) e f) in
             reference_less_than s okS a okR v gas.c l.c l.value l.low;
       }
 
@@ -66,7 +65,7 @@ module _ (s : Sheet) (okS : SheetOk s) (at : Measurement) (gas : Cylinder) (okR 
       omega (arith, of_lt (is_nat r) (is_nat s.k) (accepted s (pos r) a h.c h.value).below_k)
 
 -- ---- by the mode
-module _ (st : State) (xs : List Fraction) (b : Bool) (limit : ℕ) (s : Sheet) (okS : SheetOk s) (loaded : st.loaded ≡ Loaded.One s) (at : Measurement)
+module _ (st : State) (xs : List Fraction) (b : Bool) (limit : ℕ) (s : Sheet) (okS : SheetOk s) (loaded : st.loaded ≡ Some s) (at : Measurement)
     {r : ℕ} {wet dry : ℤ} where
   worth : (mode : Mode) → st.mode ≡ mode → AcceptedOn s st.q st.s mode at (searched_of s mode (air_of at)) r wet dry
       → Worth (ledger_at st xs b limit) at r wet dry
@@ -96,6 +95,6 @@ module _ (st : State) (xs : List Fraction) (b : Bool) (limit : ℕ) (s : Sheet) 
 pub sample_worth : (st : State) (xs : List Fraction) (b : Bool) (limit : ℕ) → loaded_within st.loaded ≡ true → (at : Measurement) {r : ℕ} {wet dry : ℤ}
     → AcceptedIn st at (searched_for st at) r wet dry → Worth (ledger_at st xs b limit) at r wet dry
 sample_worth st xs b limit w at {r} {wet} {dry} x =
-    let f = ap (λ (l : Loaded). searched_under l st.mode at) x.loaded in
+    let f = ap (λ (l : Option Sheet). searched_under l st.mode at) x.loaded in
     worth st xs b limit x.sheet (sheet_in w x.loaded) x.loaded at st.mode refl
-    (subst (λ (y : Found). AcceptedOn x.sheet st.q st.s st.mode at y r wet dry) f x.sample)
+    (subst (λ (y : Option ℕ). AcceptedOn x.sheet st.q st.s st.mode at y r wet dry) f x.sample)

@@ -1,12 +1,12 @@
 -- Demand 3: what holds at each event of every list, refused ones included, from a fresh engine, with the exact ledger going
 -- through the same list, and beside it the wet values counted since the start. Assumes nothing.
-use Rattle.std.specs.Prelude.{true, ℕ, suc, ◌≤◌, List, [], ◌∷◌, ◌≡◌, ℤ, pos, ◌+ℤ◌, ◌-ℤ◌, length}
+use Rattle.refusals.specs.Numbers.{refusal_number}
+use Rattle.std.specs.Prelude.{true, ℕ, suc, ◌≤◌, List, [], ◌∷◌, ◌≡◌, ℤ, pos, ◌+ℤ◌, ◌-ℤ◌, length, None, Option, Some}
 use Rattle.curve.specs.declared.Sheet.{Sheet}
 use Rattle.exact.specs.Fraction.{whole, LiesWithin, AtLeast, LessThan}
 use Rattle.exact.specs.Equation.{exact_wet, exact_dry}
 use Rattle.exact.specs.Area.{area_of, exact_area}
 use Rattle.exact.specs.Bounds.{absolute_bound, against_bound, dry_bound, reference_bound, area_bound}
-use Rattle.rules.specs.declared.Loaded.{Loaded}
 use Rattle.sampling.specs.declared.Cylinder.{Cylinder}
 use Rattle.sampling.specs.declared.Mode.{Mode}
 use Rattle.rules.specs.declared.State.{State}
@@ -29,8 +29,9 @@ use Rattle.ledger.specs.Wets.{wets_step}
 -- a refused answer has a number of the list, 1 to 11, and its fields are zero. What this adds is the range, so that 0 stands for
 -- accepted answers alone: the fields are zero by `m_of`, `x_of` and `y_of`, whatever the number, and `by_rules` below fixes which it is
 abbrev pub RefusalHolds : Answer → Type 0
-RefusalHolds (Answer.Refused number) =
-    (1 ≤ number) × (number ≤ 11) × (m_of (Answer.Refused number) ≡ 0) × (x_of (Answer.Refused number) ≡ pos 0) × (y_of (Answer.Refused number) ≡ pos 0)
+RefusalHolds (Answer.Refused why) =
+    (1 ≤ refusal_number why) × (refusal_number why ≤ 11)
+    × (m_of (Answer.Refused why) ≡ 0) × (x_of (Answer.Refused why) ≡ pos 0) × (y_of (Answer.Refused why) ≡ pos 0)
 RefusalHolds Answer.Done = Unit
 RefusalHolds (Answer.Zeroed q) = Unit
 RefusalHolds (Answer.Spanned s) = Unit
@@ -48,10 +49,10 @@ pub record AtSignal (s : Sheet) (gas : Cylinder) (at : Measurement) (r : ℕ) : 
   pub here : AtLeast (exact_wet s (whole (pos r)) (reference_air (air_of at) gas)) (pos gas.c -ℤ pos reference_bound)
   pub below : (v : ℕ) → r ≡ suc v → LessThan (exact_wet s (whole (pos v)) (reference_air (air_of at) gas)) (pos gas.c +ℤ pos reference_bound)
 
-abbrev pub SignalHolds : Loaded → Mode → Measurement → ℕ → Type 0
-SignalHolds Loaded.Nothing mode at r = ⊥
-SignalHolds (Loaded.One s) Mode.Absolute at r = r ≡ 0
-SignalHolds (Loaded.One s) (Mode.Against gas) at r = AtSignal s gas at r
+abbrev pub SignalHolds : Option Sheet → Mode → Measurement → ℕ → Type 0
+SignalHolds None mode at r = ⊥
+SignalHolds (Some s) Mode.Absolute at r = r ≡ 0
+SignalHolds (Some s) (Mode.Against gas) at r = AtSignal s gas at r
 
 -- an accepted sample: its wet value beside the ledger's exact value, its dry value beside that times P / (P − e), and its R
 pub record SampleHolds (g : Ledger) (at : Measurement) (r : ℕ) (wet dry : ℤ) : Type 0 where
@@ -71,7 +72,7 @@ pub record AreaHolds (g : Ledger) (ws : List ℤ) (n : ℕ) (area : ℤ) : Type 
 -- refused, an area by an area or refused
 abbrev pub SampleAnswered : Ledger → Measurement → Answer → Type 0
 SampleAnswered g at (Answer.Reading r wet dry) = SampleHolds g at r wet dry
-SampleAnswered g at (Answer.Refused number) = Unit
+SampleAnswered g at (Answer.Refused why) = Unit
 SampleAnswered g at Answer.Done = ⊥
 SampleAnswered g at (Answer.Zeroed q) = ⊥
 SampleAnswered g at (Answer.Spanned s) = ⊥
@@ -79,7 +80,7 @@ SampleAnswered g at (Answer.Area n area) = ⊥
 
 abbrev pub AreaAnswered : Ledger → List ℤ → Answer → Type 0
 AreaAnswered g ws (Answer.Area n area) = AreaHolds g ws n area
-AreaAnswered g ws (Answer.Refused number) = Unit
+AreaAnswered g ws (Answer.Refused why) = Unit
 AreaAnswered g ws Answer.Done = ⊥
 AreaAnswered g ws (Answer.Zeroed q) = ⊥
 AreaAnswered g ws (Answer.Spanned s) = ⊥

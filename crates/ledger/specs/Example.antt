@@ -1,11 +1,10 @@
 -- Document 01's example, "Session file and program": one sheet of the bench, load 0, reference C 1,000,000,000 e 0, sample raw
 -- 10,000,000 at P 101,300 T 29,815 e 0, area; and what it prints of them. Assumes nothing.
-use Rattle.std.specs.Prelude.{ℕ, List, [], ◌∷◌, ◌++◌, map, ◌≡◌, pos}
+use Rattle.std.specs.Prelude.{ℕ, List, [], ◌∷◌, ◌++◌, map, ◌≡◌, pos, Ok}
 use Rattle.curve.specs.Bench.{bench_sheet}
 use Rattle.layout.specs.declared.AnswerRecord.{AnswerRecord}
 use Rattle.rules.specs.declared.Event.{Event}
 use Rattle.rules.specs.declared.Entry.{Entry}
-use Rattle.sheets.specs.declared.Lookup.{Lookup}
 use Rattle.sheets.specs.Sheets.{lookup_of}
 use Rattle.rules.specs.Rules.{fresh}
 use Rattle.engine.specs.Transcript.{transcript, record_of_line}
@@ -62,6 +61,6 @@ example_rows =
 -- document 01's example, from a fresh engine
 pub record Example : Type 0 where
   -- the bytes say the sheet of the bench
-  pub sheet : lookup_of example_sheets 0 ≡ Lookup.Found bench_sheet
+  pub sheet : lookup_of example_sheets 0 ≡ Ok bench_sheet
   -- the answers are as printed
   pub rows : map record_of_line (transcript example_sheets fresh example_entries) ≡ example_rows

@@ -1,12 +1,11 @@
 -- The exact ledger of document 01: it is given the list of sheets and fed each entry with its answer, and nothing else of the
 -- engine. Assumes nothing.
-use Rattle.std.specs.Prelude.{ℕ, ◌+◌, ◌*◌, Bool, true, false, not, cond, List, [], ◌∷◌, ◌++◌, eqb, ℤ, pos, length}
+use Rattle.std.specs.Prelude.{ℕ, ◌+◌, ◌*◌, Bool, true, false, not, cond, List, [], ◌∷◌, ◌++◌, eqb, ℤ, pos, length, None, Option, Some}
 use Rattle.curve.specs.declared.Sheet.{Sheet}
 use Rattle.exact.specs.Fraction.{Fraction, whole}
 use Rattle.exact.specs.Equation.{exact_wet}
 use Rattle.exact.specs.Signal.{exact_signal, exact_against}
 use Rattle.layout.specs.Records.{sheet_at}
-use Rattle.rules.specs.declared.Loaded.{Loaded}
 use Rattle.sampling.specs.declared.Mode.{Mode}
 use Rattle.sampling.specs.declared.Measurement.{Measurement}
 use Rattle.rules.specs.declared.Event.{Event}
@@ -18,7 +17,7 @@ use Rattle.sampling.specs.Sample.{air_of}
 
 -- a sheet, Q, S, a mode, and a series of exact values that runs or doesn't; since R-10 the series knows how many values it takes
 pub record Ledger : Type 0 where
-  pub sheet : Loaded
+  pub sheet : Option Sheet
   pub q : ℤ
   pub s : ℕ
   pub mode : Mode
@@ -27,12 +26,12 @@ pub record Ledger : Type 0 where
   pub limit : ℕ
 
 -- the settings with the series empty and not running; it takes no value before a start says how many
-abbrev pub settled : Loaded → ℤ → ℕ → Mode → Ledger
+abbrev pub settled : Option Sheet → ℤ → ℕ → Mode → Ledger
 settled sheet q s mode = record { sheet = sheet; q = q; s = s; mode = mode; series = []; runs = false; limit = 0 }
 
 -- it begins with no sheet, Q = 0, S = 1,000,000, absolute, the series empty and not running
 abbrev pub fresh_ledger : Ledger
-fresh_ledger = settled Loaded.Nothing (pos 0) 1000000 Mode.Absolute
+fresh_ledger = settled None (pos 0) 1000000 Mode.Absolute
 
 -- the same with another series; its limit is the one that its start set
 abbrev pub with_series : Ledger → List Fraction → Bool → Ledger
@@ -45,9 +44,9 @@ exact_in Mode.Absolute s x at r = exact_wet s x (air_of at)
 exact_in (Mode.Against gas) s x at r = exact_wet s (exact_against x r s.k) (air_of at)
 
 -- with no sheet there is no value, and no accepted sample: 0 stands for it
-abbrev pub exact_on : Loaded → Ledger → Measurement → ℕ → Fraction
-exact_on Loaded.Nothing g at r = whole (pos 0)
-exact_on (Loaded.One s) g at r = exact_in g.mode s (exact_signal at.raw g.q g.s) at r
+abbrev pub exact_on : Option Sheet → Ledger → Measurement → ℕ → Fraction
+exact_on None g at r = whole (pos 0)
+exact_on (Some s) g at r = exact_in g.mode s (exact_signal at.raw g.q g.s) at r
 
 abbrev pub exact_value : Ledger → Measurement → ℕ → Fraction
 exact_value g at r = exact_on g.sheet g at r
@@ -75,7 +74,7 @@ taken g x =
     cond g.runs (with_series g (g.series ++ (x ∷ [])) (not (eqb (length g.series + 1) g.limit))) g
 
 abbrev pub accepted_by : List ℕ → Ledger → Entry → Answer → Ledger
-accepted_by sheets g (Entry.Known (Event.Load index)) a = settled (Loaded.One (as_sheet (sheet_at sheets (24 * index)))) (pos 0) 1000000 Mode.Absolute
+accepted_by sheets g (Entry.Known (Event.Load index)) a = settled (Some (as_sheet (sheet_at sheets (24 * index)))) (pos 0) 1000000 Mode.Absolute
 accepted_by sheets g (Entry.Known (Event.Zero raw)) a = settled g.sheet raw g.s g.mode
 accepted_by sheets g (Entry.Known (Event.Span at cylinder)) a = settled g.sheet g.q (m_of a) g.mode
 accepted_by sheets g (Entry.Known (Event.Reference cylinder e)) a = settled g.sheet g.q g.s (Mode.Against (record { c = cylinder; e = e }))

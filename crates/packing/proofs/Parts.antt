@@ -1,23 +1,20 @@
 -- Sheets and events as the code puts both: the pieces, put, are the records of a file. Assumes nothing.
-use Prim.Native.Nat.{ℕ}
+use Prim.Native.Nat.{ℕ, ◌*◌, ◌/◌}
 use mathlib.Core.List.{List, flat_map}
-use mathlib.Core.Path.{◌≡◌, ap, ◌∙◌}
+use mathlib.Core.Path.{◌≡◌, sym, ap, ◌∙◌}
 use lib.ListN.{length}
-use Rattle.layout.specs.Records.{sheet_of, sheet_bytes, event_of, event_bytes}
-use Rattle.layout.proofs.RoundTrips.{length_sheet, length_event}
 use Rattle.format.specs.Header.{records_from}
+use Rattle.format.proofs.File.{length_records, length_flat, records_map}
 use Rattle.contents.proofs.Planned.{flat_map_lem}
-use Rattle.validation.specs.declared.Part.{Part}
-use Rattle.validation.proofs.Parts.{pieces, read_off}
-use Rattle.packing.specs.Parts.{part_bytes}
+use Rattle.validation.specs.Parts.{pieces_in}
 
-pub length_part : (part : Part) (piece : List ℕ) → length (part_bytes part piece) ≡ 24
-length_part Part.Sheets piece = length_sheet _
-length_part Part.Events piece = length_event _
+pub put_as : {A : Type 0} (write : A → List ℕ) (read : List ℕ → A) (s : List ℕ)
+    → flat_map (λ piece. write (read piece)) (pieces_in s) ≡ flat_map write (records_from read s 0 (length s / 24))
+put_as write read s =
+    flat_map_lem write read (pieces_in s) ∙ ap (flat_map write) (sym (records_map (λ (piece : List ℕ). piece) read s 0 (length s / 24)))
 
-module _ (s : List ℕ) (at count : ℕ) where
-  pub sheet_pieces : flat_map (part_bytes Part.Sheets) (pieces s at count) ≡ flat_map sheet_bytes (records_from sheet_of s at count)
-  sheet_pieces = flat_map_lem sheet_bytes sheet_of (pieces s at count) ∙ ap (flat_map sheet_bytes) (read_off s at count sheet_of)
+pub pieces_count : (s : List ℕ) → length (pieces_in s) ≡ length s / 24
+pieces_count s = length_records (λ (piece : List ℕ). piece) s 0 (length s / 24)
 
-  pub event_pieces : flat_map (part_bytes Part.Events) (pieces s at count) ≡ flat_map event_bytes (records_from event_of s at count)
-  event_pieces = flat_map_lem event_bytes event_of (pieces s at count) ∙ ap (flat_map event_bytes) (read_off s at count event_of)
+pub pieces_length : (bytes : List ℕ → List ℕ) → ((piece : List ℕ) → length (bytes piece) ≡ 24) → (s : List ℕ) → length (flat_map bytes (pieces_in s)) ≡ 24 * (length s / 24)
+pieces_length bytes sized s = length_flat bytes sized (pieces_in s) ∙ ap (λ n. 24 * n) (pieces_count s)

@@ -2,76 +2,93 @@
 // small: nothing is copied but into the lent buffer.
 #![tactic(auto)]
 
-ghost use Rattle.std.specs.Prelude.{◌≡◌, ◌+◌, ◌*◌, ◌≤◌, length};
+ghost use Rattle.std.specs.Prelude.{ℕ, List, ◌≡◌, ◌+◌, ◌≤◌, length};
 ghost use mathlib.Core.List.{flat_map};
 ghost use Rattle.fields.specs.Fields.{splice};
-ghost use Rattle.layout.specs.Records.{record_at};
+ghost use Rattle.layout.specs.Records.{record_at, sheet_of, sheet_bytes, event_of, event_bytes};
 ghost use Rattle.layout.specs.Lent.{Puts};
+ghost use Rattle.layout.proofs.RoundTrips.{length_sheet, length_event};
+ghost use Rattle.layout.specs.Ended.{status_of, written_of};
 ghost use Rattle.contents.specs.Packed.{packed_status};
-ghost use Rattle.packing.specs.Write.{FillsPacked};
 ghost use Rattle.validation.specs.Parts.{pieces_in};
-ghost use Rattle.packing.specs.Parts.{part_bytes};
+ghost use Rattle.packing.specs.Write.{FillsPacked};
 
 use heading::put_header;
-use layout::Filled;
 use layout::records::{event_at, put_event, put_sheet, sheet_at};
-use validation::{Part, is_packed};
+use layout::{EventRecord, SheetRecord, TurnedAway};
+use validation::is_packed;
 
-// Writes the session file of these sheets and events at the start of a lent buffer: 0, or 14, 11 or 15, which leaves the buffer as it was.
-pub fn write_records(sheets: &[u8], events: &[u8], out: &mut [u8]) -> Filled
-    ensures { FillsPacked sheets.now events.now out.old result.status result.written out.new }
+// Writes the session file of these sheets and events at the start of a lent buffer, and tells how many bytes it has; or turns them away with
+// 14, 11 or 15, which leaves the buffer as it was.
+pub fn write_records(sheets: &[u8], events: &[u8], out: &mut [u8]) -> Result<usize, TurnedAway>
+    ensures { FillsPacked sheets.now events.now out.old (status_of result) (written_of result) out.new }
 {
-    let status = status_for(sheets, events, out.len());
-    if status != 0 {
-        return Filled { status, written: 0 };
-    }
+    accept(sheets, events, out.len())?;
     put_header(out, sheets.len() / 24, events.len() / 24);
-    let at = put_records(Part::Sheets, sheets, out, 16);
-    let written = put_records(Part::Events, events, out, at);
-    Filled { status, written }
+    let at = put_records::<SheetRecord>(sheets, out, 16);
+    let written = put_records::<EventRecord>(events, out, at);
+    Ok(written)
 }
 
-// 0, or 14 before 11 before 15.
-fn status_for(sheets: &[u8], events: &[u8], room: usize) -> u8
-    ensures { result ≡ packed_status sheets.now events.now room }
+// Whether these records are written to a buffer of this length, or turned away: 14 before 11 before 15.
+#[tactic(auto, unfolding(contents::specs::Packed::packed_status))]
+fn accept(sheets: &[u8], events: &[u8], room: usize) -> Result<(), TurnedAway>
+    ensures { status_of result ≡ packed_status sheets.now events.now room }
 {
     // 16 and 2,700 records.
-    if 384 < sheets.len() {
-        return 14;
-    }
-    if 64800 < events.len() {
-        return 14;
+    if 384 < sheets.len() || 64800 < events.len() {
+        return Err(TurnedAway::TooMany);
     }
     if !is_packed(sheets, events) {
-        return 11;
+        return Err(TurnedAway::Malformed);
     }
     if room < 16 + sheets.len() + events.len() {
-        return 15;
+        return Err(TurnedAway::NoRoomForFile);
     }
-    0
+    Ok(())
+}
+
+// What a slice holds the records of.
+trait Part {
+    // A record's bytes, read and put.
+    ghost bytes: { List ℕ → List ℕ };
+
+    // Puts the record that stands at an offset of a slice. All other bytes stay.
+    fn put(s: &[u8], from: usize, out: &mut [u8], at: usize)
+        requires { (from + 24 ≤ length s.now) × (at + 24 ≤ length out.old) }
+        ensures { out.new ≡ splice out.old at (bytes (record_at s.now from)) };
+
+    ghost sized: { (piece : List ℕ) → length (bytes piece) ≡ 24 };
+}
+
+impl Part for SheetRecord {
+    ghost bytes = { λ piece. sheet_bytes (sheet_of piece) };
+
+    ghost sized = { λ piece. length_sheet (sheet_of piece) };
+
+    fn put(s: &[u8], from: usize, out: &mut [u8], at: usize) {
+        put_sheet(out, at, sheet_at(s, from));
+    }
+}
+
+impl Part for EventRecord {
+    ghost bytes = { λ piece. event_bytes (event_of piece) };
+
+    ghost sized = { λ piece. length_event (event_of piece) };
+
+    fn put(s: &[u8], from: usize, out: &mut [u8], at: usize) {
+        put_event(out, at, event_at(s, from));
+    }
 }
 
 // Puts the records of a slice one after the other, from an offset on, and answers the position past them.
-fn put_records(part: Part, s: &[u8], out: &mut [u8], at: usize) -> usize
+fn put_records<P: Part>(s: &[u8], out: &mut [u8], at: usize) -> usize
     requires { at + length s.now ≤ length out.old }
-    ensures { Puts out.old at (flat_map (part_bytes part) (pieces_in s.now)) out.new result }
+    ensures { Puts out.old at (flat_map P.bytes (pieces_in s.now)) out.new result }
 {
     let count = s.len() / 24;
-    let mut i = 0;
-    while i < count {
-        put_record(part, s, 24 * i, out, at + 24 * i);
-        i += 1;
+    for i in 0..count {
+        P::put(s, 24 * i, out, at + 24 * i);
     }
     at + 24 * count
-}
-
-// Puts the record that stands at an offset of a slice. All other bytes stay.
-fn put_record(part: Part, s: &[u8], from: usize, out: &mut [u8], at: usize)
-    requires { (from + 24 ≤ length s.now) × (at + 24 ≤ length out.old) }
-    ensures { out.new ≡ splice out.old at (part_bytes part (record_at s.now from)) }
-{
-    match part {
-        Part::Sheets => put_sheet(out, at, sheet_at(s, from)),
-        Part::Events => put_event(out, at, event_at(s, from)),
-    }
 }

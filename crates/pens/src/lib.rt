@@ -5,27 +5,19 @@ ghost use Rattle.std.specs.Prelude.{◌≡◌};
 ghost use Rattle.recorder.specs.Recorder.{packed_refusal, packed_word};
 ghost use Rattle.pens.specs.Pens.{pack_for, unpack_for, unpacked_refusal, code_left, channel_left};
 
-use recorder::{ChannelKind, Packed, Unpacked, pack, unpack};
-
-// What a word holds, or refusal 18 for a kind that there is not.
-#[derive(Clone, Copy)]
-pub enum HostUnpacked {
-    Held(Unpacked),
-    Refused,
-}
+use recorder::{ChannelKind, Unpacked, pack, unpack};
 
 // Puts the word of a value into its place and answers 0, or 18, and then the word is 0. Kind 0 is voltage and 1 current.
 pub fn pack_into(kind: u8, x: i64, x0: i64, xf: i64, channel: u32, word: &mut u16) -> u8
     ensures value { result ≡ packed_refusal (pack_for kind x x0 xf channel) }
     ensures word_after { word.new ≡ packed_word (pack_for kind x x0 xf channel) }
 {
-    let packed = pack_for(kind, x, x0, xf, channel);
-    match packed {
-        Packed::Word(w) => {
-            *word = w;
+    match pack_for(kind, x, x0, xf, channel) {
+        Some(packed) => {
+            *word = packed;
             0
         }
-        Packed::Refused => {
+        None => {
             *word = 0;
             18
         }
@@ -38,35 +30,27 @@ pub fn unpack_into(kind: u8, word: u16, code: &mut i16, channel: &mut u8) -> u8
     ensures code_after { code.new ≡ code_left (unpack_for kind word) code.old }
     ensures channel_after { channel.new ≡ channel_left (unpack_for kind word) channel.old }
 {
-    let unpacked = unpack_for(kind, word);
-    match unpacked {
-        HostUnpacked::Held(u) => {
-            // A signed place takes a whole local: the borrow checker covers no part of one there.
-            let held = u.code;
-            *code = held;
-            *channel = u.channel;
-            0
-        }
-        HostUnpacked::Refused => 18,
-    }
+    let Some(held) = unpack_for(kind, word) else {
+        return 18;
+    };
+    *code = held.code;
+    *channel = held.channel;
+    0
 }
 
-fn pack_for(kind: u8, x: i64, x0: i64, xf: i64, channel: u32) -> Packed
+// The word of a value, or none for what the recorder turns away and for a byte that names no kind.
+fn pack_for(kind: u8, x: i64, x0: i64, xf: i64, channel: u32) -> Option<u16>
     ensures { result ≡ pack_for kind x x0 xf channel }
 {
-    match kind {
-        0 => pack(ChannelKind::Voltage, x, x0, xf, channel),
-        1 => pack(ChannelKind::Current, x, x0, xf, channel),
-        _ => Packed::Refused,
-    }
+    let named = ChannelKind::try_from(kind).ok()?;
+    pack(named, x, x0, xf, channel)
 }
 
-fn unpack_for(kind: u8, word: u16) -> HostUnpacked
+// What a word holds, or none for a byte that names no kind.
+fn unpack_for(kind: u8, word: u16) -> Option<Unpacked>
     ensures { result ≡ unpack_for kind word }
 {
-    match kind {
-        0 => HostUnpacked::Held(unpack(ChannelKind::Voltage, word)),
-        1 => HostUnpacked::Held(unpack(ChannelKind::Current, word)),
-        _ => HostUnpacked::Refused,
-    }
+    ChannelKind::try_from(kind)
+        .ok()
+        .map(|named| unpack(named, word))
 }

@@ -3,13 +3,14 @@
 
 ghost use Rattle.std.specs.Prelude.{◌≤◌, length};
 ghost use Rattle.layout.specs.Lent.{Puts};
+ghost use Rattle.layout.specs.Ended.{status_of, written_of};
 ghost use Rattle.text.specs.Line.{line_room};
 ghost use Rattle.answers.specs.Run.{FillsAs};
 ghost use Rattle.printing.specs.Text.{refused_line, printed_of};
 
 use answers::fill;
 use forms::Form;
-use layout::{AnswerRecord, Filled};
+use layout::{AnswerRecord, TurnedAway};
 use text::put_line;
 
 // Puts what the program prints for a file at the start of out, which has room for the longest line of each of 2,700 events, and
@@ -20,16 +21,15 @@ pub fn print(file: &[u8], out: &mut [u8; 194400]) -> usize
     if 65536 < file.len() {
         return put_refused(out);
     }
-    let ran = lines(file, out);
-    if ran.status != 0 {
-        return put_refused(out);
+    match lines(file, out) {
+        Ok(written) => written,
+        Err(_) => put_refused(out),
     }
-    ran.written
 }
 
 // Puts a line for each event of a file at the start of a lent buffer. A refused file leaves it as it was.
-pub fn lines(file: &[u8], out: &mut [u8]) -> Filled
-    ensures { FillsAs Form.Lines file.now out.old result.status result.written out.new }
+pub fn lines(file: &[u8], out: &mut [u8]) -> Result<usize, TurnedAway>
+    ensures { FillsAs Form.Lines file.now out.old (status_of result) (written_of result) out.new }
 {
     fill(Form::Lines, file, out)
 }

@@ -1,59 +1,51 @@
-// A reader over the lent file: it keeps a position, yields the event there and moves on by one record. Each function over it only
-// takes it apart or makes it: the work is done by functions on a slice and a number.
+// A reader over the lent file: it keeps a position, and yields one event record after the other from there on, as far as the file goes.
 #![tactic(auto)]
 
-ghost use Rattle.std.specs.Prelude.{◌≡◌, ◌+◌, ◌≤◌, length};
-ghost use Rattle.layout.specs.Records.{event_at};
+ghost use Rattle.std.specs.Prelude.{◌≡◌, ◌+◌, ◌≤◌, length, cond, is_some, ⊤};
+ghost use Rattle.std.specs.Iterator.{YieldsFirst, item_count, MakesProgress};
 ghost use Rattle.format.specs.Header.{first_event};
-ghost use Rattle.reader.specs.Reader.{yielded_at};
+ghost use Rattle.reader.specs.Reader.{ahead};
 
 use format::header::first_event;
 use layout::EventRecord;
 use layout::records::event_at;
 
-#[derive(Clone, Copy)]
+#[derive(Clone, Copy, Drop)]
 pub struct Reader<'a> {
     pub src: &'a [u8],
     pub at: usize,
 }
 
-// A reader at the first event of a file.
-pub fn new<'a>(src: &'a [u8]) -> Reader<'a>
-    requires { 16 ≤ length src.now }
-    ensures { (result.src ≡ src.entry) × (result.at ≡ first_event src.now) }
-{
-    Reader {
-        src,
-        at: first_event(src),
+impl<'a> Reader<'a> {
+    // A reader at the first event of a file.
+    pub fn new(src: &'a [u8]) -> Reader<'a>
+        requires { 16 ≤ length src.now }
+        ensures { (result.src ≡ src.entry) × (result.at ≡ first_event src.now) }
+    {
+        Reader {
+            src,
+            at: first_event(src),
+        }
     }
 }
 
-// The event at the reader's position.
-pub fn event<'a>(r: Reader<'a>) -> EventRecord
-    requires { r.at + 24 ≤ length r.src.now }
-    ensures { result ≡ event_at r.entry.src.now r.entry.at }
-{
-    event_at(r.src, r.at)
-}
+impl<'a> Iterator for Reader<'a> {
+    type Item = EventRecord;
 
-// The reader after the event at its position.
-pub fn moved<'a>(r: Reader<'a>) -> Reader<'a>
-    requires { r.at + 24 ≤ length r.src.now }
-    ensures { (result.src ≡ r.entry.src) × (result.at ≡ r.entry.at + 24) }
-{
-    Reader {
-        src: r.src,
-        at: r.at + 24,
+    ghost next_gives = { YieldsFirst (λ r. ahead r.src.now r.at) };
+
+    ghost remaining = { item_count (λ r. ahead r.src.now r.at) };
+
+    // It goes on by one record, or, where there is none, stays where it is.
+    fn next(&mut self) -> Option<EventRecord>
+        ensures steps { YieldsFirst (λ r. ahead r.src.now r.at) self.old result self.new }
+        ensures goes { MakesProgress (λ _. ⊤) (item_count (λ r. ahead r.src.now r.at)) self.old result self.new }
+        ensures stands { (self.new.src ≡ self.old.src) × (self.new.at ≡ cond (is_some result) (self.old.at + 24) self.old.at) }
+    {
+        let record = self.src.get(self.at..)?.first_chunk::<24>()?;
+        self.at += 24;
+        Some(event_at(record, 0))
     }
-}
-
-// ---- for callers with plain parameters: no proof above these two meets a held reference
-
-// An event of a file, and the position after it.
-#[derive(Clone, Copy)]
-pub struct Yielded {
-    pub event: EventRecord,
-    pub at: usize,
 }
 
 // Where a new reader stands.
@@ -61,17 +53,5 @@ pub fn first(file: &[u8]) -> usize
     requires { 16 ≤ length file.now }
     ensures { result ≡ first_event file.now }
 {
-    new(file).at
-}
-
-// What a reader at a position yields, and where it stands when it has moved on.
-pub fn next_from(file: &[u8], at: usize) -> Yielded
-    requires { at + 24 ≤ length file.now }
-    ensures { result ≡ yielded_at file.now at }
-{
-    let r = Reader { src: file, at };
-    Yielded {
-        event: event(r),
-        at: moved(r).at,
-    }
+    Reader::new(file).at
 }

@@ -1,19 +1,21 @@
 -- What is accepted, as facts and as a test; how wide the scale is; and where a held number lies. Assumes nothing.
 use mathlib.Core.Path.{◌≡◌, refl}
-use mathlib.Core.Bool.{Bool, true, false}
+use mathlib.Core.Bool.{Bool, true, false, ◌&&◌}
 use Prim.Native.Nat.{ℕ, ◌≤◌, ◌<◌}
 use native.Mathlib.Omega.{arith}
 use lib.Dec.{ltb}
 use lib.IntN.{ℤ, nat_abs, ◌-ℤ◌}
 use lib.Signed.{lt_z, ◌≤ℤ◌, ◌<ℤ◌, ≤ℤ_refl}
 use borrow.Author.Tests.{leb-true, ltb-true, le-leb, lt-ltb}
+use Rattle.std.proofs.lemmas.Int.{ints, clamps}
+use Rattle.std.specs.Int.{int_max, int_min}
 use Rattle.rounding.proofs.Difference.{is_minus, is_parts, is_le, of_abs_le, of_le, of_lt}
 use Rattle.rounding.proofs.Integers.{≤ℤ-trans}
 use Rattle.rounding.proofs.Tests.{lt_true, lt_false, true_lt, false_lt, size_between}
 use Rattle.curve.proofs.Within.{both}
 use Rattle.recorder.specs.declared.ChannelKind.{ChannelKind}
 use Rattle.recorder.specs.declared.ChannelKind.TheVariants.{Voltage, Current}
-use Rattle.recorder.specs.Recorder.{Ends, in_range, accepts, lowest_of, highest_of, held_of, code_of, steps_of, ratio_of}
+use Rattle.recorder.specs.Recorder.{Ends, in_range, scales, accepts, lowest_of, highest_of, held_of, code_of, steps_of, ratio_of}
 
 -- ---- what is accepted
 pub accepted_ends : (x x0 xf : ℤ) (channel : ℕ) → accepts x x0 xf channel ≡ true → Ends x x0 xf × (channel < 16)
@@ -36,6 +38,15 @@ pub ends_accepted : (x x0 xf : ℤ) (channel : ℕ) → Ends x x0 xf → channel
 unfolding accepts
 ends_accepted x x0 xf channel e l =
     rw (le-leb (nat_abs x) 4000000000 e.x_size, le-leb (nat_abs x0) 4000000000 e.x0_size, le-leb (nat_abs xf) 4000000000 e.xf_size, true_lt x0 xf e.above, lt-ltb channel 16 l)
+
+-- the value, the scale and the channel number, each by itself
+pub accepts_is : (x x0 xf : ℤ) (channel : ℕ) → accepts x x0 xf channel ≡ in_range x && (scales x0 xf && ltb channel 16)
+unfolding accepts
+accepts_is x x0 xf channel = apart (in_range x) (in_range x0) (in_range xf) (lt_z x0 xf) (ltb channel 16)
+  where
+    apart : (a b c d e : Bool) → (a && b && c && d && e) ≡ (a && (b && c && d && e))
+    apart true b c d e = refl
+    apart false b c d e = refl
 
 -- the scale is not empty
 pub width_positive : {x0 xf : ℤ} → x0 <ℤ xf → 0 < nat_abs (xf -ℤ x0)
@@ -71,6 +82,11 @@ by_hold {Q} low high z h f g k = go (lt_z z low) (lt_z high z) refl refl
 
 pub held_within : (low high z : ℤ) → low ≤ℤ high → (low ≤ℤ held_of low high z) × (held_of low high z ≤ℤ high)
 held_within low high z h = by_hold low high z h (λ l e. rw e (≤ℤ_refl low, h)) (λ l e. rw e (h, ≤ℤ_refl high)) (λ l m e. rw e (l, m))
+
+-- std's way to hold a number
+pub clamped : (low high z : ℤ) → low ≤ℤ high → int_max low (int_min z high) ≡ held_of low high z
+clamped low high z h =
+    by_hold low high z h (λ l e. rw e (omega (arith, ints, clamps))) (λ l e. rw e (omega (arith, ints, clamps))) (λ l m e. rw e (omega (arith, ints, clamps)))
 
 pub ordered : (k : ChannelKind) → lowest_of k ≤ℤ highest_of k
 ordered Voltage = record { le = tt }

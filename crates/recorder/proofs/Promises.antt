@@ -14,22 +14,22 @@ use Rattle.rounding.specs.Near.{nearest}
 use Rattle.rounding.proofs.Nearest.{near_half, near_mono, near_exact}
 use Rattle.recorder.specs.declared.ChannelKind.{ChannelKind}
 use Rattle.recorder.specs.declared.ChannelKind.TheVariants.{Voltage, Current}
-use Rattle.recorder.specs.declared.Packed.TheVariants.{Word, Refused}
+use Rattle.std.proofs.Common.{Some, None}
 use Rattle.recorder.specs.Recorder.{Ends, accepts, steps_of, lowest_of, highest_of, ratio_of, held_of, code_of, bits_of, word_of, pack_of, code_in, unpack_of}
 use Rattle.recorder.specs.Promises.{TurnedAway, Unheld, HeldLow, HeldHigh, EveryCode, GivenBack}
 use Rattle.recorder.specs.Examples.{MakersExamples, Words}
 use Rattle.recorder.proofs.Codes.{accepted_ends, ends_accepted, width_positive, held_within, held_low, unheld, by_hold, ordered, code_within, size_within}
 
 -- ---- what is turned away
-packed_accepted : (k : ChannelKind) (x x0 xf : ℤ) (channel : ℕ) → Ends x x0 xf → channel < 16 → pack_of k x x0 xf channel ≡ Word (word_of (code_of k x x0 xf) channel)
+packed_accepted : (k : ChannelKind) (x x0 xf : ℤ) (channel : ℕ) → Ends x x0 xf → channel < 16 → pack_of k x x0 xf channel ≡ Some (word_of (code_of k x x0 xf) channel)
 unfolding pack_of
 packed_accepted k x x0 xf channel e l = rw (ends_accepted x x0 xf channel e l)
 
-packed_refused : (k : ChannelKind) (x x0 xf : ℤ) (channel : ℕ) → (Ends x x0 xf → channel < 16 → ⊥) → pack_of k x x0 xf channel ≡ Refused
+packed_refused : (k : ChannelKind) (x x0 xf : ℤ) (channel : ℕ) → (Ends x x0 xf → channel < 16 → ⊥) → pack_of k x x0 xf channel ≡ None
 unfolding pack_of
 packed_refused k x x0 xf channel n = go (accepts x x0 xf channel) refl
   where
-    go : (t : Bool) → accepts x x0 xf channel ≡ t → cond t (Word (word_of (code_of k x x0 xf) channel)) Refused ≡ Refused
+    go : (t : Bool) → accepts x x0 xf channel ≡ t → cond t (Some (word_of (code_of k x x0 xf) channel)) None ≡ None
     go true e = let a = accepted_ends x x0 xf channel e in absurd (n a.0 a.1)
     go false e = refl
 
@@ -42,7 +42,7 @@ turned_away = record {
 -- ---- what a word holds
 
 -- a word that was packed
-packed_word_lem : (t : Bool) (n w : ℕ) → cond t (Word n) Refused ≡ Word w → w ≡ n
+packed_word_lem : (t : Bool) (n w : ℕ) → cond t (Some n) None ≡ Some w → w ≡ n
 packed_word_lem true n w e = cc
 packed_word_lem false n w e = cc
 
@@ -87,7 +87,7 @@ held_in_word k z channel l h =
     let high : (channel * 4096 + bits_of z) / 4096 ≡ channel = omega arith in
     rw (low, high, r.1)
 
-unpacked : (k : ChannelKind) (x x0 xf : ℤ) (channel w : ℕ) → pack_of k x x0 xf channel ≡ Word w → unpack_of k w ≡ record { code = code_of k x x0 xf; channel = channel }
+unpacked : (k : ChannelKind) (x x0 xf : ℤ) (channel w : ℕ) → pack_of k x x0 xf channel ≡ Some w → unpack_of k w ≡ record { code = code_of k x x0 xf; channel = channel }
 unfolding pack_of
 unpacked k x x0 xf channel w e =
     let b = code_within k x x0 xf in
@@ -103,12 +103,12 @@ own_ends : (k : ChannelKind) (z : ℤ) → nat_abs z ≤ 4095 → Ends z (pos 0)
 own_ends Voltage z h = record { x_size = omega arith; x0_size = omega arith; xf_size = omega arith; above = record { lt = tt } }
 own_ends Current z h = record { x_size = omega arith; x0_size = omega arith; xf_size = omega arith; above = record { lt = tt } }
 
-packed : (k : ChannelKind) (w : ℕ) → w < 65536 → pack_of k (unpack_of k w).code (pos 0) (pos (steps_of k)) (unpack_of k w).channel ≡ Word w
+packed : (k : ChannelKind) (w : ℕ) → w < 65536 → pack_of k (unpack_of k w).code (pos 0) (pos (steps_of k)) (unpack_of k w).channel ≡ Some w
 packed k w h =
     let z = code_in k (w % 4096) in
     let s = bits_of_code k (w % 4096) (omega arith) in
     packed_accepted k z (pos 0) (pos (steps_of k)) (w / 4096) (own_ends k z (size_within k z s.low s.high)) (omega arith)
-    ∙ ap Word (rw (own_ratio k z, unheld (lowest_of k) (highest_of k) z s.low s.high, s.bits) (omega arith))
+    ∙ ap Some (rw (own_ratio k z, unheld (lowest_of k) (highest_of k) z s.low s.high, s.bits) (omega arith))
 
 reached : (k : ChannelKind) (code : ℤ) (channel : ℕ) → lowest_of k ≤ℤ code → code ≤ℤ highest_of k → channel < 16
     → (word_of code channel < 65536) × (unpack_of k (word_of code channel) ≡ record { code = code; channel = channel })

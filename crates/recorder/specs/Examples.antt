@@ -1,7 +1,6 @@
 -- The examples of source document 001, "Measuring Linear Analyzer Output" and "Resolution", as codes, and words at the ends. Assumes nothing.
-use Rattle.std.specs.Prelude.{◌≡◌, ℕ, ◌*◌, ℤ, pos, neg_ℤ}
+use Rattle.std.specs.Prelude.{◌≡◌, ℕ, ◌*◌, ℤ, pos, neg_ℤ, Some, None}
 use Rattle.recorder.specs.declared.ChannelKind.TheVariants.{Voltage, Current}
-use Rattle.recorder.specs.declared.Packed.TheVariants.{Word, Refused}
 use Rattle.recorder.specs.Recorder.{code_of, pack_of}
 
 -- so many µmol/mol in pmol/mol, and the same below zero
@@ -27,16 +26,16 @@ pub record MakersExamples : Type 0 where
 
 -- channel 3 on a voltage scale of 0 to 4,000 µmol/mol; −1 on one of 1 pmol/mol a step, halves on one of 2; and the ends of a current channel
 pub record Words : Type 0 where
-  pub start : pack_of Voltage (umol 0) (umol 0) (umol 4000) 3 ≡ Word 0x3000
-  pub middle : pack_of Voltage (umol 2000) (umol 0) (umol 4000) 3 ≡ Word 0x3400
-  pub highest : pack_of Voltage (umol 4000) (umol 0) (umol 4000) 3 ≡ Word 0x37FF
-  pub lowest : pack_of Voltage (minus 4000) (umol 0) (umol 4000) 3 ≡ Word 0x3800
-  pub minus_one : pack_of Voltage (neg_ℤ (pos 1)) (pos 0) (pos 2048) 3 ≡ Word 0x3FFF
-  pub half_below : pack_of Voltage (neg_ℤ (pos 1)) (pos 0) (pos 4096) 0 ≡ Word 0x0FFF
-  pub half_above : pack_of Voltage (pos 1) (pos 0) (pos 4096) 0 ≡ Word 0x0001
-  pub current_start : pack_of Current (neg_ℤ (pos 1)) (pos 0) (pos 4096) 15 ≡ Word 0xF000
-  pub current_end : pack_of Current (pos 4096) (pos 0) (pos 4096) 15 ≡ Word 0xFFFF
+  pub start : pack_of Voltage (umol 0) (umol 0) (umol 4000) 3 ≡ Some 0x3000
+  pub middle : pack_of Voltage (umol 2000) (umol 0) (umol 4000) 3 ≡ Some 0x3400
+  pub highest : pack_of Voltage (umol 4000) (umol 0) (umol 4000) 3 ≡ Some 0x37FF
+  pub lowest : pack_of Voltage (minus 4000) (umol 0) (umol 4000) 3 ≡ Some 0x3800
+  pub minus_one : pack_of Voltage (neg_ℤ (pos 1)) (pos 0) (pos 2048) 3 ≡ Some 0x3FFF
+  pub half_below : pack_of Voltage (neg_ℤ (pos 1)) (pos 0) (pos 4096) 0 ≡ Some 0x0FFF
+  pub half_above : pack_of Voltage (pos 1) (pos 0) (pos 4096) 0 ≡ Some 0x0001
+  pub current_start : pack_of Current (neg_ℤ (pos 1)) (pos 0) (pos 4096) 15 ≡ Some 0xF000
+  pub current_end : pack_of Current (pos 4096) (pos 0) (pos 4096) 15 ≡ Some 0xFFFF
   -- turned away: ends that are the same, a channel number of 16, and a value one above the range
-  pub no_scale : pack_of Current (pos 0) (pos 5) (pos 5) 0 ≡ Refused
-  pub channel_16 : pack_of Current (pos 0) (pos 0) (pos 5) 16 ≡ Refused
-  pub value_above : pack_of Voltage (pos 4000000001) (pos 0) (pos 5) 0 ≡ Refused
+  pub no_scale : pack_of Current (pos 0) (pos 5) (pos 5) 0 ≡ None
+  pub channel_16 : pack_of Current (pos 0) (pos 0) (pos 5) 16 ≡ None
+  pub value_above : pack_of Voltage (pos 4000000001) (pos 0) (pos 5) 0 ≡ None

@@ -1,7 +1,6 @@
 -- What R-8 promises of codes and words, as statements about the rules. `proofs/Promises.antt` proves them. Assumes nothing.
-use Rattle.std.specs.Prelude.{◌≡◌, ◌⊎◌, ℕ, ◌*◌, ◌≤◌, ◌<◌, ℤ, pos, nat_abs, ◌-ℤ◌, ◌*ℤ◌, ◌≤ℤ◌, ◌<ℤ◌}
+use Rattle.std.specs.Prelude.{◌≡◌, ◌⊎◌, ℕ, ◌*◌, ◌≤◌, ◌<◌, ℤ, pos, nat_abs, ◌-ℤ◌, ◌*ℤ◌, ◌≤ℤ◌, ◌<ℤ◌, Some}
 use Rattle.recorder.specs.declared.ChannelKind.{ChannelKind}
-use Rattle.recorder.specs.declared.Packed.TheVariants.{Word}
 use Rattle.recorder.specs.Recorder.{Ends, steps_of, lowest_of, highest_of, ratio_of, code_of, word_of, pack_of, packed_refusal, packed_word, unpack_of}
 
 -- 0 and the word for a value, ends and a channel number that are all within their limits; 18 and the word 0 for any others
@@ -34,11 +33,11 @@ pub record EveryCode : Type 0 where
 
 pub record GivenBack : Type 0 where
   -- a packed word holds the code and the channel number that it was packed from
-  pub unpacked : (k : ChannelKind) (x x0 xf : ℤ) (channel w : ℕ) → pack_of k x x0 xf channel ≡ Word w
+  pub unpacked : (k : ChannelKind) (x x0 xf : ℤ) (channel w : ℕ) → pack_of k x x0 xf channel ≡ Some w
       → unpack_of k w ≡ record { code = code_of k x x0 xf; channel = channel }
   -- every code of a kind and every channel number is held by its word
   pub reached : (k : ChannelKind) (code : ℤ) (channel : ℕ) → lowest_of k ≤ℤ code → code ≤ℤ highest_of k → channel < 16
       → (word_of code channel < 65536) × (unpack_of k (word_of code channel) ≡ record { code = code; channel = channel })
   -- and every word of sixteen bits is packed from what it holds, on a scale whose steps are 1 pmol/mol
   pub packed : (k : ChannelKind) (w : ℕ) → w < 65536
-      → pack_of k (unpack_of k w).code (pos 0) (pos (steps_of k)) (unpack_of k w).channel ≡ Word w
+      → pack_of k (unpack_of k w).code (pos 0) (pos (steps_of k)) (unpack_of k w).channel ≡ Some w

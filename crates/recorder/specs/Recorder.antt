@@ -1,19 +1,27 @@
 -- Document 02's R-8, chart recorder output: what is turned away, a wet value's code, code and channel number as one word, and what a word
 -- holds. `nearest` is document 01's near, with R-6's halves. Assumes nothing.
-use Rattle.std.specs.Prelude.{ℕ, ◌+◌, ◌*◌, ◌-◌, ◌/◌, ◌%◌, ◌≤◌, Bool, cond, ◌&&◌, leb, ltb, ℤ, pos, negsuc, neg_ℤ, nat_abs, ◌-ℤ◌, ◌*ℤ◌, ◌<ℤ◌}
+use Rattle.std.specs.Prelude.{ℕ, ◌+◌, ◌*◌, ◌-◌, ◌/◌, ◌%◌, ◌≤◌, Bool, cond, Option, Some, None, ◌&&◌, leb, ltb, eqb, ℤ, pos, negsuc, neg_ℤ, nat_abs, ◌-ℤ◌, ◌*ℤ◌, ◌<ℤ◌}
 use Rattle.std.specs.Int.Signed.{lt_z}
 use Rattle.rounding.specs.Near.{nearest}
 use Rattle.recorder.specs.declared.ChannelKind.{ChannelKind}
 use Rattle.recorder.specs.declared.ChannelKind.TheVariants.{Voltage, Current}
-use Rattle.recorder.specs.declared.Packed.{Packed}
-use Rattle.recorder.specs.declared.Packed.TheVariants.{Word, Refused}
 use Rattle.recorder.specs.declared.Unpacked.{Unpacked}
+
+-- ---- what a channel is
+
+-- the kind that a byte names: 0 voltage, 1 current, any other none
+abbrev pub kind_of : ℕ → Option ChannelKind
+kind_of code = cond (eqb code 0) (Some Voltage) (cond (eqb code 1) (Some Current) None)
 
 -- ---- what is turned away
 
 -- from −4,000,000,000 to 4,000,000,000 pmol/mol
 abbrev pub in_range : ℤ → Bool
 in_range x = leb (nat_abs x) 4000000000
+
+-- the ends in their range, XF above X0
+abbrev pub scales : ℤ → ℤ → Bool
+scales x0 xf = in_range x0 && in_range xf && lt_z x0 xf
 
 -- the value X and the ends X0 and XF in their range, XF above X0, the channel number 0 to 15
 unfoldable pub accepts : ℤ → ℤ → ℤ → ℕ → Bool
@@ -63,17 +71,17 @@ bits_of (negsuc n) = 4095 - n
 abbrev pub word_of : ℤ → ℕ → ℕ
 word_of code channel = channel * 4096 + bits_of code
 
-unfoldable pub pack_of : ChannelKind → ℤ → ℤ → ℤ → ℕ → Packed
-pack_of k x x0 xf channel = cond (accepts x x0 xf channel) (Word (word_of (code_of k x x0 xf) channel)) Refused
+unfoldable pub pack_of : ChannelKind → ℤ → ℤ → ℤ → ℕ → Option ℕ
+pack_of k x x0 xf channel = cond (accepts x x0 xf channel) (Some (word_of (code_of k x x0 xf) channel)) None
 
 -- the paper's numbers of what was packed: the refusal, 0 if accepted, and the word, 0 if turned away
-abbrev pub packed_refusal : Packed → ℕ
-packed_refusal (Word w) = 0
-packed_refusal Refused = 18
+abbrev pub packed_refusal : Option ℕ → ℕ
+packed_refusal (Some w) = 0
+packed_refusal None = 18
 
-abbrev pub packed_word : Packed → ℕ
-packed_word (Word w) = w
-packed_word Refused = 0
+abbrev pub packed_word : Option ℕ → ℕ
+packed_word (Some w) = w
+packed_word None = 0
 
 -- ---- unpacking
 

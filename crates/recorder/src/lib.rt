@@ -2,11 +2,12 @@
 #![tactic(auto)]
 
 ghost use Rattle.std.specs.Prelude.{◌≡◌, ◌≤◌, ◌<◌, nat_abs};
-ghost use Rattle.std.specs.Int.Signed.{lt_z};
-ghost use Rattle.recorder.specs.Recorder.{in_range, accepts, Ends, ratio_of, held_of, code_of, word_of, pack_of, code_in, unpack_of};
+ghost use Rattle.std.specs.Result.{result_ok};
+ghost use Rattle.recorder.specs.Recorder.{kind_of, word_of, pack_of, code_in, unpack_of};
 
-use rounding::near_scaled;
-use rounding::signed::{difference, magnitude};
+mod scale;
+
+use scale::{Scale, in_range};
 
 // What a channel drives its pen with.
 #[derive(Clone, Copy)]
@@ -15,11 +16,22 @@ pub enum ChannelKind {
     Current,
 }
 
-// The word for the recorder, or refusal 18.
+// A byte that names no kind of channel.
 #[derive(Clone, Copy)]
-pub enum Packed {
-    Word(u16),
-    Refused,
+pub struct UnknownKind;
+
+impl TryFrom<u8> for ChannelKind {
+    type Error = UnknownKind;
+
+    ghost try_from_gives = { λ code r. result_ok r ≡ kind_of code };
+
+    fn try_from(code: u8) -> Result<Self, UnknownKind> {
+        match code {
+            0 => Ok(ChannelKind::Voltage),
+            1 => Ok(ChannelKind::Current),
+            _ => Err(UnknownKind),
+        }
+    }
 }
 
 // What a word holds.
@@ -29,14 +41,16 @@ pub struct Unpacked {
     pub channel: u8,
 }
 
-// The word of the value x on a scale from x0 to xf.
-pub fn pack(kind: ChannelKind, x: i64, x0: i64, xf: i64, channel: u32) -> Packed
+// The word of the value x on a scale from x0 to xf, or none, which is refusal 18.
+pub fn pack(kind: ChannelKind, x: i64, x0: i64, xf: i64, channel: u32) -> Option<u16>
     ensures { result ≡ pack_of kind x x0 xf channel }
 {
-    if !accepted(x, x0, xf, channel) {
-        return Packed::Refused;
+    let scale = Scale::new(x0, xf)?;
+    if in_range(x) && channel < 16 {
+        Some(word(scale.code(kind, x), channel))
+    } else {
+        None
     }
-    Packed::Word(word(code(kind, x, x0, xf), channel))
 }
 
 // Code and channel of any word, whoever made it.
@@ -46,67 +60,6 @@ pub fn unpack(kind: ChannelKind, word: u16) -> Unpacked
     Unpacked {
         code: code_in(kind, word & 0xFFF),
         channel: (word >> 12) as u8,
-    }
-}
-
-fn in_range(x: i64) -> bool
-    ensures { result ≡ in_range x }
-{
-    magnitude(x) <= 4000000000
-}
-
-fn rises(x0: i64, xf: i64) -> bool
-    ensures { result ≡ lt_z x0 xf }
-{
-    x0 < xf
-}
-
-fn accepted(x: i64, x0: i64, xf: i64, channel: u32) -> bool
-    ensures { result ≡ accepts x x0 xf channel }
-{
-    if !in_range(x) {
-        return false;
-    }
-    if !in_range(x0) {
-        return false;
-    }
-    if !in_range(xf) {
-        return false;
-    }
-    if !rises(x0, xf) {
-        return false;
-    }
-    channel < 16
-}
-
-// steps (x − x0) / (xf − x0), rounded.
-fn ratio(steps: u64, x: i64, x0: i64, xf: i64) -> i64
-    requires { (steps ≤ 4096) × Ends x x0 xf }
-    ensures { result ≡ ratio_of steps x x0 xf }
-{
-    near_scaled(difference(x, x0), steps, magnitude(difference(xf, x0)))
-}
-
-// z held within low and high.
-fn held(low: i64, high: i64, z: i64) -> i64
-    ensures { result ≡ held_of low high z }
-{
-    if z < low {
-        return low;
-    }
-    if high < z {
-        return high;
-    }
-    z
-}
-
-fn code(kind: ChannelKind, x: i64, x0: i64, xf: i64) -> i64
-    requires { Ends x x0 xf }
-    ensures { result ≡ code_of kind x x0 xf }
-{
-    match kind {
-        ChannelKind::Voltage => held(-2048, 2047, ratio(2048, x, x0, xf)),
-        ChannelKind::Current => held(0, 4095, ratio(4096, x, x0, xf)),
     }
 }
 
@@ -125,13 +78,7 @@ fn code_in(kind: ChannelKind, bits: u16) -> i16
     ensures { result ≡ code_in kind bits }
 {
     match kind {
-        ChannelKind::Voltage => {
-            if bits < 2048 {
-                bits as i16
-            } else {
-                bits as i16 - 4096
-            }
-        }
-        ChannelKind::Current => bits as i16,
+        ChannelKind::Voltage if 2048 <= bits => bits as i16 - 4096,
+        _ => bits as i16,
     }
 }

@@ -1,5 +1,6 @@
 -- The starred reference and span cases hold. A search is decided by the neighbours of what it finds, and not by its 40,000,000
 -- steps. Assumes nothing.
+use Rattle.std.specs.Prelude.{Err, None, Ok, Some}
 use mathlib.Core.Path.{◌≡◌, refl, ap}
 use mathlib.Core.Bool.{Bool, true, false}
 use Prim.Native.Nat.{ℕ, suc, ◌+◌, ◌≤◌, ◌<◌}
@@ -7,14 +8,13 @@ use native.Mathlib.Omega.{arith}
 use lib.IntN.{ℤ, pos, ◌-ℤ◌}
 use lib.Signed.{le_z, ◌≤ℤ◌, le_z_yes}
 use Rattle.rounding.specs.Near.{nearest}
-use Rattle.curve.specs.declared.Reading.{Reading}
-use Rattle.curve.specs.declared.Reading.TheVariants.{Value, OverRange}
+use Rattle.curve.specs.Reading.{Reading}
+use Rattle.curve.specs.declared.OutOfRange.TheVariants.{OverRange}
 use Rattle.curve.specs.Limits.{SheetOk, AirOk}
 use Rattle.curve.specs.Curve.{reduced_of, slope2_of, slope1_of, cubic_of, moist_of, warm_of, wet_of}
 use Rattle.curve.specs.Absolute.{absolute_of}
 use Rattle.curve.specs.Bench.{bench_sheet, bench_air}
 use Rattle.curve.specs.Order.{NotAbove}
-use Rattle.reference.specs.declared.Found.TheVariants.{At, Nothing}
 use Rattle.reference.specs.declared.Sought.TheVariants.{Signal, Span}
 use Rattle.reference.specs.Signal.{signal_of, against_of}
 use Rattle.reference.specs.Search.{least, serves, reference_refusal, span_refusal, reference_of, span_of}
@@ -29,16 +29,16 @@ module _ (g : ℕ → Reading) (rises : Rising g) (cylinder n count : ℕ) where
   test v = serves cylinder (g v)
 
   -- found where it serves and the number before reads too low
-  by_neighbours : (m : ℕ) {c : ℤ} → n ≤ suc m → suc m < n + count → g m ≡ Value c → le_z (pos cylinder) c ≡ false → test (suc m) ≡ true
-      → least test n count ≡ At (suc m)
+  by_neighbours : (m : ℕ) {c : ℤ} → n ≤ suc m → suc m < n + count → g m ≡ Ok c → le_z (pos cylinder) c ≡ false → test (suc m) ≡ true
+      → least test n count ≡ Some (suc m)
   by_neighbours m l h e low on = least_at test n count (suc m) l h (λ j p q. none_below g rises cylinder m e low j (omega arith)) on
 
   -- none where the last number reads too low
-  none_to : (m : ℕ) {c : ℤ} → n + count ≤ suc m → g m ≡ Value c → le_z (pos cylinder) c ≡ false → least test n count ≡ Nothing
+  none_to : (m : ℕ) {c : ℤ} → n + count ≤ suc m → g m ≡ Ok c → le_z (pos cylinder) c ≡ false → least test n count ≡ None
   none_to m l e low = least_none test n count (λ j p q. none_below g rises cylinder m e low j (omega arith))
 
   -- none where one number reads too low and the next is over range
-  none_between : (m : ℕ) {c : ℤ} → g m ≡ Value c → le_z (pos cylinder) c ≡ false → g (suc m) ≡ OverRange → least test n count ≡ Nothing
+  none_between : (m : ℕ) {c : ℤ} → g m ≡ Ok c → le_z (pos cylinder) c ≡ false → g (suc m) ≡ Err OverRange → least test n count ≡ None
   none_between m e low over =
       least_none test n count
       (λ j p q. either m j (λ l. none_above g rises cylinder (suc m) over j l) (λ l. none_below g rises cylinder m e low j l))

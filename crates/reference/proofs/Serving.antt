@@ -1,5 +1,6 @@
 -- Readings that never fall, as the signal's do: above one over range none serves, and below one too low none does. Assumes
 -- nothing.
+use Rattle.std.specs.Prelude.{Err, Ok}
 use mathlib.Core.Path.{◌≡◌, refl, sym, subst}
 use mathlib.Core.Bool.{false}
 use Prim.Native.Nat.{ℕ, ◌≤◌}
@@ -10,8 +11,8 @@ use borrow.Author.Tests.{lt-leb}
 use Rattle.rounding.proofs.Integers.{≤ℤ-trans, ≤ℤ-<ℤ-trans, *ℤ-mono, pos_mono, nonnegative, nonnegative_scale, nonpositive, nonpositive_scale}
 use Rattle.rounding.proofs.Nearest.{near_mono, near_nonnegative, near_nonpositive}
 use Rattle.rounding.proofs.Tests.{le_false, false_le}
-use Rattle.curve.specs.declared.Reading.{Reading}
-use Rattle.curve.specs.declared.Reading.TheVariants.{Value, BelowZero, OverRange}
+use Rattle.curve.specs.Reading.{Reading}
+use Rattle.curve.specs.declared.OutOfRange.TheVariants.{BelowZero, OverRange}
 use Rattle.curve.proofs.Accepted.{not_value, value_same, over_range}
 use Rattle.curve.specs.declared.Sheet.{Sheet}
 use Rattle.curve.specs.declared.Air.{Air}
@@ -29,31 +30,31 @@ abbrev pub Rising : (ℕ → Reading) → Type 0
 Rising g = (v w : ℕ) → v ≤ w → NotAbove (g v) (g w)
 
 -- after a reading that is over range comes none that serves
-over_below : {q r : Reading} (cylinder : ℕ) → NotAbove q r → q ≡ OverRange → serves cylinder r ≡ false
+over_below : {q r : Reading} (cylinder : ℕ) → NotAbove q r → q ≡ Err OverRange → serves cylinder r ≡ false
 over_below cylinder from_below e = absurd (no e)
   where
-    no : BelowZero ≡ OverRange → ⊥
+    no : ◌≡◌ {A = Reading} (Err BelowZero) (Err OverRange) → ⊥
     no e = let z : ◌≡◌ {A = ℕ} 0 1 = cc in omega arith
 over_below cylinder (values {c} l) e = absurd (no c e)
   where
-    no : (c : ℤ) → Value c ≡ OverRange → ⊥
+    no : (c : ℤ) → ◌≡◌ {A = Reading} (Ok c) (Err OverRange) → ⊥
     no c e = let z : ◌≡◌ {A = ℕ} 0 1 = cc in omega arith
 over_below cylinder to_over e = refl
 
 -- before an accepted reading that is below the cylinder comes none that serves
-low_above : {q r : Reading} (cylinder : ℕ) {c : ℤ} → NotAbove q r → r ≡ Value c → le_z (pos cylinder) c ≡ false → serves cylinder q ≡ false
+low_above : {q r : Reading} (cylinder : ℕ) {c : ℤ} → NotAbove q r → r ≡ Ok c → le_z (pos cylinder) c ≡ false → serves cylinder q ≡ false
 low_above cylinder from_below e l = refl
 low_above cylinder {c} (values {c = b} {d} h) e l =
     false_le (pos cylinder) b (≤ℤ-<ℤ-trans h (subst (λ (x : ℤ). x <ℤ pos cylinder) (sym (value_same e)) (le_false (pos cylinder) c l)))
-low_above cylinder {c} to_over e l = absurd (not_value OverRange c e refl)
+low_above cylinder {c} to_over e l = absurd (not_value (Err OverRange) c e refl)
 
 module _ (g : ℕ → Reading) (rises : Rising g) (cylinder : ℕ) where
   -- above a signal over range none serves
-  pub none_above : (m : ℕ) → g m ≡ OverRange → (j : ℕ) → m ≤ j → serves cylinder (g j) ≡ false
+  pub none_above : (m : ℕ) → g m ≡ Err OverRange → (j : ℕ) → m ≤ j → serves cylinder (g j) ≡ false
   none_above m e j l = over_below cylinder (rises m j l) e
 
   -- below a signal that reads too low none serves
-  pub none_below : (m : ℕ) {c : ℤ} → g m ≡ Value c → le_z (pos cylinder) c ≡ false → (j : ℕ) → j ≤ m → serves cylinder (g j) ≡ false
+  pub none_below : (m : ℕ) {c : ℤ} → g m ≡ Ok c → le_z (pos cylinder) c ≡ false → (j : ℕ) → j ≤ m → serves cylinder (g j) ≡ false
   none_below m e low j l = low_above cylinder (rises j m l) e low
 
 -- ---- what a search runs over
@@ -78,8 +79,8 @@ module _ (s : Sheet) (a : Air) where
   sought_rises okS okA (Span raw q) n h v w l = absolute_mono s a okS okA _ _ (signal_rises raw q h.2 l)
 
   -- a reading that is no value is over range
-  pub sought_over : (u : Sought) (n : ℕ) → SoughtOk u n → (v : ℕ) {r : Reading} → r ≡ sought_reading s a u v → ((c : ℤ) → r ≡ Value c → ⊥)
-      → sought_reading s a u v ≡ OverRange
+  pub sought_over : (u : Sought) (n : ℕ) → SoughtOk u n → (v : ℕ) {r : Reading} → r ≡ sought_reading s a u v → ((c : ℤ) → r ≡ Ok c → ⊥)
+      → sought_reading s a u v ≡ Err OverRange
   sought_over Signal n h v e t = over_range s (pos v) a (nonnegative v) e t
   sought_over (Span raw q) n h v e t = over_range s (signal_of raw q v) a (signal_from_0 raw q v h.2) e t
 

@@ -3,7 +3,7 @@
 use Rattle.std.specs.Prelude.{ℕ, ◌≤◌, pos, nat_abs, ◌-ℤ◌, ◌≤ℤ◌}
 use Rattle.curve.specs.declared.Sheet.{Sheet}
 use Rattle.curve.specs.declared.Air.{Air}
-use Rattle.curve.specs.declared.Reading.{Reading}
+use Rattle.curve.specs.Reading.{Reading}
 use Rattle.curve.specs.Absolute.{absolute_of}
 use Rattle.reference.specs.declared.Sought.{Sought}
 use Rattle.reference.specs.declared.Sought.TheVariants.{Signal, Span}

@@ -7,18 +7,10 @@ ghost use Rattle.reference.specs.Search.{least, serves, reference_of, span_of};
 ghost use Rattle.reference.specs.Sought.{SoughtOk, sought_reading};
 
 use crate::signal::from_raw;
-use curve::{Air, Reading, Sheet};
-use rounding::signed::{at_least, difference, positive};
+use curve::{Air, OutOfRange, Sheet};
+use rounding::signed::{difference, positive};
 
 pub mod signal;
-
-// What a search finds: the first number that serves, or none.
-#[derive(Clone, Copy)]
-pub enum Found {
-    At(u64),
-    // Refusal 9 for a reference signal, 5 for a span.
-    Nothing,
-}
 
 // What a search runs over: signals, or the spans under which raw is read with the zero q.
 #[derive(Clone, Copy)]
@@ -27,55 +19,52 @@ pub enum Sought {
     Span { raw: i64, q: i64 },
 }
 
-// The reference signal of a cylinder, in air that has the cylinder's vapour pressure.
-pub fn reference_signal(s: Sheet, cylinder: u64, a: Air) -> Found
+// The reference signal of a cylinder, if there is one, in air that has the cylinder's vapour pressure.
+pub fn reference_signal(s: Sheet, cylinder: u64, a: Air) -> Option<u64>
     requires { SheetOk s × AirOk a × (cylinder ≤ 3000000000) }
     ensures { result ≡ reference_of s cylinder a }
 {
     search(s, cylinder, a, Sought::Signal, 0, 150000001)
 }
 
-// The span at which raw reads the cylinder, under the zero q.
-pub fn span_setting(s: Sheet, raw: i64, q: i64, cylinder: u64, a: Air) -> Found
+// The span at which raw reads the cylinder, under the zero q, if there is one.
+pub fn span_setting(s: Sheet, raw: i64, q: i64, cylinder: u64, a: Air) -> Option<u64>
     requires { SheetOk s × AirOk a × (nat_abs raw ≤ 150000000) × (nat_abs q ≤ 20000000) × (1 ≤ cylinder) × (cylinder ≤ 3000000000) }
     ensures { result ≡ span_of s raw q cylinder a }
 {
     // At or below the zero no span lifts the signal above 0.
-    if !at_least(difference(raw, q), 1) {
-        return Found::Nothing;
+    if difference(raw, q) < 1 {
+        return None;
     }
     let sought = Sought::Span { raw, q };
     // Whether 499,999 would serve as well: then the gas reads too high for the range.
-    let Found::Nothing = search(s, cylinder, a, sought, 499999, 500000) else {
-        return Found::Nothing;
-    };
+    if search(s, cylinder, a, sought, 499999, 500000).is_some() {
+        return None;
+    }
     search(s, cylinder, a, sought, 500000, 2000001)
 }
 
-// The first number from low up to, not at, high that serves. Above one over range there is none, and below one that reads
+// The first number from low up to, not at, high that serves, if any does. Above one over range there is none, and below one that reads
 // too low there is none either.
-fn search(s: Sheet, cylinder: u64, a: Air, sought: Sought, low: u64, high: u64) -> Found
+fn search(s: Sheet, cylinder: u64, a: Air, sought: Sought, low: u64, high: u64) -> Option<u64>
     requires { SheetOk s × AirOk a × (cylinder ≤ 3000000000) × SoughtOk sought (high - 1) × (low ≤ high) }
     ensures { result ≡ least (λ (n : ℕ). serves cylinder (sought_reading s a sought n)) low (high - low) }
 {
     if low == high {
-        return Found::Nothing;
+        return None;
     }
     let middle = low + (high - low) / 2;
-    let Reading::Value(c) = reading_at(s, a, sought, middle) else {
+    let Ok(c) = reading_at(s, a, sought, middle) else {
         return search(s, cylinder, a, sought, low, middle);
     };
-    if !at_least(c, cylinder) {
-        return search(s, cylinder, a, sought, middle + 1, high);
+    if c >= cylinder as i64 {
+        return search(s, cylinder, a, sought, low, middle).or(Some(middle));
     }
-    let Found::At(n) = search(s, cylinder, a, sought, low, middle) else {
-        return Found::At(middle);
-    };
-    Found::At(n)
+    search(s, cylinder, a, sought, middle + 1, high)
 }
 
 // The absolute reading of the signal n, or of raw under the span n.
-fn reading_at(s: Sheet, a: Air, sought: Sought, n: u64) -> Reading
+fn reading_at(s: Sheet, a: Air, sought: Sought, n: u64) -> Result<i64, OutOfRange>
     requires { SheetOk s × AirOk a × SoughtOk sought n }
     ensures { result ≡ sought_reading s a sought n }
 {

@@ -1,4 +1,4 @@
--- The loop that collects typed values of a file's records in an array: the first i of the array are those of the first i records. Assumes
+-- The loop that collects typed values of a file's records in a slice: the first i of the slice are those of the first i records. Assumes
 -- nothing.
 use Prim.Native.Nat.{ℕ, zero, suc, ◌+◌, ◌*◌, ◌<◌, ◌≤◌}
 use native.Mathlib.Numerals.{add-one}
@@ -6,7 +6,7 @@ use native.Mathlib.Omega.{arith}
 use mathlib.Core.List.{List, [], ◌∷◌, ◌++◌}
 use mathlib.Core.Path.{◌≡◌, refl, ◌∙◌}
 use lib.ListN.{length, take, set, length-set}
-use lib.Seq.{take-suc-set}
+use lib.Seq.{take_all, take-suc-set}
 use Rattle.layout.specs.Records.{record_at}
 use Rattle.format.specs.Header.{records_from}
 
@@ -21,19 +21,19 @@ module _ {A : Type 0} (read : List ℕ → A) (s : List ℕ) where
       ap_cons : {xs ys : List A} → xs ≡ ys → read (record_at s at) ∷ xs ≡ read (record_at s at) ∷ ys
       ap_cons e = rw e
 
-  -- i of count values are collected in an array of that size
-  pub record Collecting (from count size : ℕ) (xs : List A) (i : ℕ) : Type 0 where
-    pub passed : i ≤ count
+  -- the first i of a slice of that size are those of the records from `from` on
+  pub record Collecting (from size : ℕ) (xs : List A) (i : ℕ) : Type 0 where
+    pub passed : i ≤ size
     pub long : length xs ≡ size
     pub got : take i xs ≡ records_from read s from i
 
-  module _ {from count size : ℕ} {xs : List A} where
-    pub begun : length xs ≡ size → Collecting from count size xs 0
+  module _ {from size : ℕ} {xs : List A} where
+    pub begun : length xs ≡ size → Collecting from size xs 0
     begun l = record { passed = omega arith; long = l; got = refl }
 
-    module _ {i : ℕ} (c : Collecting from count size xs i) where
-      pub turned : i < count → count ≤ size → {a : A} → a ≡ read (record_at s (from + 24 * i)) → Collecting from count size (set xs i a) (i + 1)
-      turned h fits {a} e =
+    module _ {i : ℕ} (c : Collecting from size xs i) where
+      pub turned : i < size → {a : A} → a ≡ read (record_at s (from + 24 * i)) → Collecting from size (set xs i a) (i + 1)
+      turned h {a} e =
           let l = c.long in
           record {
             passed = omega arith;
@@ -41,5 +41,8 @@ module _ {A : Type 0} (read : List ℕ → A) (s : List ℕ) where
             got = rw (add-one, take-suc-set xs i a (omega arith), c.got, e, records_last from i);
           }
 
-      pub ended : count ≤ i → take count xs ≡ records_from read s from count
-      ended h = let q : count ≡ i = omega (arith, c.passed) in rw q c.got
+      pub ended : size ≤ i → xs ≡ records_from read s from size
+      ended h =
+          let q : size ≡ i = omega (arith, c.passed) in
+          let l = c.long in
+          rw (take_all size xs (omega arith)) at (rw (← q) at c.got)

@@ -4,10 +4,9 @@
 ghost use Rattle.std.specs.Prelude.{◌≡◌, ◌*◌, ◌<◌, ◌≤◌, nat_abs, pos, ◌*ℤ◌};
 ghost use Rattle.rounding.specs.Near.{nearest, nearest_size};
 
-use crate::signed::{magnitude, negative, positive, product};
+use crate::signed::{negative, positive, product};
 
 pub mod signed;
-pub mod widths;
 
 // Document 01's near(a/b) with R-6's halves: the nearest whole number to a / b, a half going away from zero.
 pub fn near(a: i64, b: u64) -> i64
@@ -16,9 +15,9 @@ pub fn near(a: i64, b: u64) -> i64
 {
     // The size is taken where the sign is known, so that the compiler need not test it again.
     if a < 0 {
-        negative(quotient(magnitude(a), b))
+        negative(quotient(a.unsigned_abs(), b))
     } else {
-        positive(quotient(magnitude(a), b))
+        positive(quotient(a.unsigned_abs(), b))
     }
 }
 

@@ -1,13 +1,5 @@
-// Signed machine numbers, an operation each, so that no other function meets one.
+// Signed machine numbers, an operation each: what it gives on the whole numbers, and how large its operands may be.
 ghost use Rattle.std.specs.Prelude.{◌≡◌, ◌+◌, ◌*◌, ◌≤◌, nat_abs, pos, neg_ℤ, ◌+ℤ◌, ◌-ℤ◌, ◌*ℤ◌};
-ghost use Rattle.std.specs.Int.Signed.{lt_z, le_z};
-
-// How far a is from 0, for every a: !a is −a − 1, which fits where −a would not.
-pub fn magnitude(a: i64) -> u64
-    ensures { result ≡ nat_abs a }
-{
-    if a < 0 { (!a) as u64 + 1 } else { a as u64 }
-}
 
 // m as a signed number.
 pub fn positive(m: u64) -> i64
@@ -44,34 +36,4 @@ pub fn product(a: i64, b: i64) -> i64
     ensures { result ≡ a *ℤ b }
 {
     a * b
-}
-
-pub fn below_zero(a: i64) -> bool
-    ensures { result ≡ lt_z a (pos 0) }
-{
-    a < 0
-}
-
-// Whether a is more than n.
-pub fn above(a: i64, n: u64) -> bool
-    requires { n ≤ 9000000000000000000 }
-    ensures { result ≡ lt_z (pos n) a }
-{
-    positive(n) < a
-}
-
-// Whether a is less than −n.
-pub fn below(a: i64, n: u64) -> bool
-    requires { n ≤ 9000000000000000000 }
-    ensures { result ≡ lt_z a (neg_ℤ (pos n)) }
-{
-    a < negative(n)
-}
-
-// Whether a is n or more.
-pub fn at_least(a: i64, n: u64) -> bool
-    requires { n ≤ 9000000000000000000 }
-    ensures { result ≡ le_z (pos n) a }
-{
-    positive(n) <= a
 }

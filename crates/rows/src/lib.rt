@@ -2,34 +2,30 @@
 // due. Each function answers the position past what it put, and all other bytes stay.
 #![tactic(auto)]
 
-ghost use Rattle.std.specs.Prelude.{◌≡◌, true, ◌+◌, ◌≤◌, ◌<◌, nat_abs, length};
+ghost use Rattle.std.specs.Prelude.{◌≡◌, true, ◌+◌, ◌≤◌, ◌<◌, nat_abs, length, Some};
 ghost use Rattle.layout.specs.Lent.{Puts};
 ghost use Rattle.sampling.specs.Sample.{mode_within};
 ghost use Rattle.figures.specs.Figures.{right};
 ghost use Rattle.rows.specs.Rows.{Columned, shown_of, third_of, sample_line, header_due, rows_of, under_headers, joined};
 
 use figures::{put_figure, put_ordinal, put_text};
-use rounding::signed::{difference, positive};
 use rules::Answer;
 use sampling::Mode;
 
-// What the page shows of an answer: the values of an accepted sample.
+// The values of an accepted sample, as a line shows them.
 #[derive(Clone, Copy)]
-pub enum Shown {
-    Nothing,
-    Sample { wet: i64, dry: i64 },
+pub struct Shown {
+    pub wet: i64,
+    pub dry: i64,
 }
 
-pub fn shown_of(answer: Answer) -> Shown
+// What the page shows of an answer: the values of an accepted sample, and of anything else nothing.
+pub fn shown_of(answer: Answer) -> Option<Shown>
     ensures { result ≡ shown_of answer }
 {
     match answer {
-        Answer::Done => Shown::Nothing,
-        Answer::Zeroed(_) => Shown::Nothing,
-        Answer::Spanned(_) => Shown::Nothing,
-        Answer::Reading { r: _, wet, dry } => Shown::Sample { wet, dry },
-        Answer::Area { n: _, area: _ } => Shown::Nothing,
-        Answer::Refused(_) => Shown::Nothing,
+        Answer::Reading { r: _, wet, dry } => Some(Shown { wet, dry }),
+        _ => None,
     }
 }
 
@@ -42,16 +38,16 @@ pub fn put_rows(
     samples: usize,
     ordinal: u64,
     mode: Mode,
-    shown: Shown,
+    shown: Option<Shown>,
 ) -> usize
     requires { (0 < every) × (ordinal < 1000000) × Columned mode shown × (at + length (joined (under_headers every samples (rows_of ordinal mode shown))) ≤ length out.old) }
     ensures { Puts out.old at (joined (under_headers every samples (rows_of ordinal mode shown))) out.new result }
 {
     match shown {
-        Shown::Nothing => at,
-        Shown::Sample { wet, dry } => {
+        None => at,
+        Some(sample) => {
             let next = put_header_due(out, at, every, samples);
-            put_sample(out, next, ordinal, mode, wet, dry)
+            put_sample(out, next, ordinal, mode, sample)
         }
     }
 }
@@ -73,14 +69,14 @@ fn put_header_due(out: &mut [u8], at: usize, every: usize, samples: usize) -> us
 }
 
 // Puts the line of a sample: its event's ordinal, wet, dry, and wet less the reference's cylinder.
-fn put_sample(out: &mut [u8], at: usize, ordinal: u64, mode: Mode, wet: i64, dry: i64) -> usize
-    requires { (at + 73 ≤ length out.old) × (ordinal < 1000000) × (mode_within mode ≡ true) × (nat_abs wet < 9007199254740992) × (nat_abs dry < 9007199254740992) }
-    ensures { Puts out.old at (sample_line ordinal mode wet dry) out.new result }
+fn put_sample(out: &mut [u8], at: usize, ordinal: u64, mode: Mode, sample: Shown) -> usize
+    requires { (at + 73 ≤ length out.old) × (ordinal < 1000000) × Columned mode (Some sample) }
+    ensures { Puts out.old at (sample_line ordinal mode sample.wet sample.dry) out.new result }
 {
     let next = put_ordinal(out, at, ordinal);
-    let next = put_figure(out, next, wet);
-    let next = put_figure(out, next, dry);
-    let next = put_third(out, next, mode, wet);
+    let next = put_figure(out, next, sample.wet);
+    let next = put_figure(out, next, sample.dry);
+    let next = put_third(out, next, mode, sample.wet);
     put_text(out, next, b"                        \n")
 }
 
@@ -93,6 +89,6 @@ fn put_third(out: &mut [u8], at: usize, mode: Mode, wet: i64) -> usize
 {
     match mode {
         Mode::Absolute => put_text(out, at, b"              "),
-        Mode::Against(gas) => put_figure(out, at, difference(wet, positive(gas.c))),
+        Mode::Against(gas) => put_figure(out, at, wet - gas.c as i64),
     }
 }

@@ -1,4 +1,5 @@
 -- What a workable record tells: the tests of `workable`, taken apart into the facts that the arithmetic asks. Assumes nothing.
+use Rattle.std.specs.Prelude.{Option, Some}
 use mathlib.Core.Path.{◌≡◌, subst}
 use mathlib.Core.Bool.{Bool, true, ◌&&◌}
 use Prim.Native.Nat.{◌≤◌}
@@ -10,9 +11,7 @@ use Rattle.curve.specs.Limits.{within, SheetOk}
 use Rattle.curve.proofs.Within.{both, range, sheet_ok}
 use Rattle.counting.specs.Limits.{integration_within}
 use Rattle.sampling.specs.Sample.{mode_within}
-use Rattle.store.specs.declared.Stored.{Stored}
-use Rattle.store.specs.Store.{stored_within}
-use Rattle.rules.specs.declared.Loaded.{Loaded}
+use Rattle.store.specs.Store.{Stored, stored_within}
 use Rattle.rules.specs.declared.State.{State}
 use Rattle.rules.specs.Limits.{loaded_within, workable}
 
@@ -54,5 +53,5 @@ unfolding workable
 work_holding st x e h = rw (both (set_within st) (stored_within st.stored) e).0 h
 
 -- the sheet of a state that has one
-pub sheet_in : {l : Loaded} {s : Sheet} → loaded_within l ≡ true → l ≡ Loaded.One s → SheetOk s
-sheet_in {s} e q = sheet_ok s (subst (λ (l : Loaded). loaded_within l ≡ true) q e)
+pub sheet_in : {l : Option Sheet} {s : Sheet} → loaded_within l ≡ true → l ≡ Some s → SheetOk s
+sheet_in {s} e q = sheet_ok s (subst (λ (l : Option Sheet). loaded_within l ≡ true) q e)

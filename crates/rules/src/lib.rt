@@ -6,26 +6,20 @@ ghost use Rattle.rules.specs.Rules.{fresh};
 
 use counting::Integration;
 use curve::Sheet;
+use refusals::Refusal;
 use sampling::{Measurement, Mode};
-use store::Stored;
+use store::Finding;
 
 pub mod kinds;
 
-// The loaded sheet, or none.
-#[derive(Clone, Copy)]
-pub enum Loaded {
-    Nothing,
-    One(Sheet),
-}
-
-// Zero is q, span is s; what is stored is the last search's.
+// The loaded sheet, if any; zero is q, span is s; and what is stored of the last search.
 #[derive(Clone, Copy)]
 pub struct State {
-    pub loaded: Loaded,
+    pub loaded: Option<Sheet>,
     pub q: i64,
     pub s: u64,
     pub mode: Mode,
-    pub stored: Stored,
+    pub stored: Option<Finding>,
     pub integration: Integration,
 }
 
@@ -61,7 +55,7 @@ pub enum Answer {
     // The reference signal, 0 in absolute mode, and the wet and the dry value.
     Reading { r: u64, wet: i64, dry: i64 },
     Area { n: u64, area: i64 },
-    Refused(u8),
+    Refused(Refusal),
 }
 
 #[derive(Clone, Copy)]
@@ -75,11 +69,11 @@ pub fn fresh_state() -> State
     ensures { result ≡ fresh }
 {
     State {
-        loaded: Loaded::Nothing,
+        loaded: None,
         q: 0,
         s: 1000000,
         mode: Mode::Absolute,
-        stored: Stored::Empty,
+        stored: None,
         integration: Integration::Idle,
     }
 }

@@ -1,4 +1,5 @@
 -- How large a signal and a finding can be. Assumes nothing.
+use Rattle.std.specs.Prelude.{None, Option, Some}
 use mathlib.Core.Path.{◌≡◌, refl}
 use Prim.Native.Nat.{ℕ, ◌≤◌}
 use native.Mathlib.Omega.{arith}
@@ -7,7 +8,6 @@ use Rattle.rounding.proofs.Integers.{abs_sub, abs_mul, prod}
 use Rattle.rounding.proofs.Nearest.{near_size}
 use Rattle.curve.specs.declared.Sheet.{Sheet}
 use Rattle.curve.specs.declared.Air.{Air}
-use Rattle.reference.specs.declared.Found.{Found}
 use Rattle.reference.specs.Signal.{signal_of}
 use Rattle.reference.specs.Search.{reference_of, found_value}
 use Rattle.reference.proofs.Bracket.{reference_range}
@@ -25,6 +25,6 @@ pub finding_size : (s : Sheet) (m : Mode) (a : Air) → found_value (searched_of
 finding_size s Mode.Absolute a = omega arith
 finding_size s (Mode.Against gas) a = go (reference_of s gas.c (reference_air a gas)) refl
   where
-    go : (f : Found) → reference_of s gas.c (reference_air a gas) ≡ f → found_value f ≤ 150000000
-    go (Found.At r) e = reference_range s (reference_air a gas) gas.c r e
-    go Found.Nothing e = omega arith
+    go : (f : Option ℕ) → reference_of s gas.c (reference_air a gas) ≡ f → found_value f ≤ 150000000
+    go (Some r) e = reference_range s (reference_air a gas) gas.c r e
+    go None e = omega arith

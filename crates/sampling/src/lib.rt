@@ -7,14 +7,14 @@ ghost use Rattle.curve.specs.Limits.{SheetOk, AirOk};
 ghost use Rattle.curve.specs.Absolute.{absolute_of};
 ghost use Rattle.reference.specs.Search.{found_value};
 ghost use Rattle.sampling.specs.Sample.{air_of, mode_within, input_within, vapour_within, checked_on, searched_of, values_of, read_of, sampled_on};
-ghost use Rattle.sampling.specs.Span.{setting_of, spanned_on};
+ghost use Rattle.sampling.specs.Span.{spanned_on};
 
 use curve::limits::{air_within, within};
 use curve::steps::dry;
-use curve::{Air, Reading, Sheet, reading_refusal};
+use curve::{Air, Sheet};
 use reference::signal::{against, from_raw};
-use reference::{Found, reference_signal, span_setting};
-use rounding::widths::{size, wide};
+use reference::{reference_signal, span_setting};
+use refusals::Refusal;
 
 // A reference gas: the cylinder Cr and its vapour pressure er.
 #[derive(Clone, Copy)]
@@ -38,18 +38,12 @@ pub struct Measurement {
     pub e: u32,
 }
 
-// What a sample gives: its values, or the refusal.
+// What an accepted sample gives: the reference signal, 0 in absolute mode, and the wet and the dry value.
 #[derive(Clone, Copy)]
-pub enum Sampled {
-    Value { r: u64, wet: i64, dry: i64 },
-    Refused(u8),
-}
-
-// What a span setting gives: the span, or the refusal.
-#[derive(Clone, Copy)]
-pub enum Spanned {
-    Value(u64),
-    Refused(u8),
+pub struct SampleValues {
+    pub r: u64,
+    pub wet: i64,
+    pub dry: i64,
 }
 
 // The limits of a mode.
@@ -69,16 +63,16 @@ pub fn sample_on(
     span: u64,
     mode: Mode,
     at: Measurement,
-    finding: Found,
-) -> Sampled
+    finding: Option<u64>,
+) -> Result<SampleValues, Refusal>
     requires { SheetOk s × (nat_abs q ≤ 20000000) × (span ≤ 2000000) × (mode_within mode ≡ true) × (found_value finding ≤ 150000000) }
     ensures { result ≡ sampled_on s q span mode at finding }
 {
     if !inputs_within(mode, at) {
-        return Sampled::Refused(6);
+        return Err(Refusal::BadInput);
     }
     let a = air_of(at);
-    let v = from_raw(wide(at.raw), q, span);
+    let v = from_raw(i64::from(at.raw), q, span);
     read(s, mode, v, a, finding)
 }
 
@@ -94,10 +88,7 @@ pub fn inputs_within(mode: Mode, at: Measurement) -> bool
 fn input_within(at: Measurement) -> bool
     ensures { result ≡ input_within at }
 {
-    if 150000000 < size(at.raw) {
-        return false;
-    }
-    air_within(air_of(at))
+    at.raw.unsigned_abs() <= 150000000 && air_within(air_of(at))
 }
 
 fn vapour_within(mode: Mode, a: Air) -> bool
@@ -122,12 +113,12 @@ pub fn air_of(at: Measurement) -> Air
 
 // The reference signal is that of this P and T, in air with the cylinder's vapour pressure. In absolute mode nothing is
 // searched for.
-pub fn searched(s: Sheet, mode: Mode, a: Air) -> Found
+pub fn searched(s: Sheet, mode: Mode, a: Air) -> Option<u64>
     requires { SheetOk s × AirOk a × (mode_within mode ≡ true) × (vapour_within mode a ≡ true) }
     ensures { result ≡ searched_of s mode a }
 {
     match mode {
-        Mode::Absolute => Found::Nothing,
+        Mode::Absolute => None,
         Mode::Against(gas) => {
             let air = Air {
                 p: a.p,
@@ -140,56 +131,42 @@ pub fn searched(s: Sheet, mode: Mode, a: Air) -> Found
 }
 
 // The signal v by the mode, with what was found for the reference.
-fn read(s: Sheet, mode: Mode, v: i64, a: Air, finding: Found) -> Sampled
+fn read(s: Sheet, mode: Mode, v: i64, a: Air, finding: Option<u64>) -> Result<SampleValues, Refusal>
     requires { SheetOk s × AirOk a × (nat_abs v ≤ 340000000) × (found_value finding ≤ 150000000) }
     ensures { result ≡ read_of s mode v a finding }
 {
     match mode {
         Mode::Absolute => values(0, s, v, a),
         Mode::Against(_) => {
-            let Found::At(r) = finding else {
-                return Sampled::Refused(9);
-            };
+            let r = finding.ok_or(Refusal::NoReference)?;
             values(r, s, against(v, r, s.k), a)
         }
     }
 }
 
 // The wet and the dry value of the signal v, beside the reference signal r.
-fn values(r: u64, s: Sheet, v: i64, a: Air) -> Sampled
+fn values(r: u64, s: Sheet, v: i64, a: Air) -> Result<SampleValues, Refusal>
     requires { SheetOk s × AirOk a }
     ensures { result ≡ values_of r a (absolute_of s v a) }
 {
-    let reading = curve::absolute(s, v, a);
-    let Reading::Value(c) = reading else {
-        return Sampled::Refused(reading_refusal(reading));
-    };
-    Sampled::Value {
+    let wet = curve::absolute(s, v, a)?;
+    Ok(SampleValues {
         r,
-        wet: c,
-        dry: dry(c, a),
-    }
+        wet,
+        dry: dry(wet, a),
+    })
 }
 
 // The span that reads a cylinder, under a sheet and a zero. Only inputs and cylinders that pass checks 6 and 4 are searched for.
-pub fn span_on(s: Sheet, q: i64, at: Measurement, cylinder: u32) -> Spanned
+pub fn span_on(s: Sheet, q: i64, at: Measurement, cylinder: u32) -> Result<u64, Refusal>
     requires { SheetOk s × (nat_abs q ≤ 20000000) }
     ensures { result ≡ spanned_on s q at cylinder }
 {
     if !input_within(at) {
-        return Spanned::Refused(6);
+        return Err(Refusal::BadInput);
     }
     if !within(1, 3000000000, cylinder as u64) {
-        return Spanned::Refused(4);
+        return Err(Refusal::BadCylinder);
     }
-    setting(span_setting(s, wide(at.raw), q, cylinder as u64, air_of(at)))
-}
-
-fn setting(finding: Found) -> Spanned
-    ensures { result ≡ setting_of finding }
-{
-    match finding {
-        Found::At(s) => Spanned::Value(s),
-        Found::Nothing => Spanned::Refused(5),
-    }
+    span_setting(s, i64::from(at.raw), q, cylinder as u64, air_of(at)).ok_or(Refusal::NoSpan)
 }

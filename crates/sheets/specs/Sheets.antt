@@ -1,17 +1,22 @@
 -- The list of sheets, as the bytes of its 24-byte records, and what a load finds there: document 01's refusals 1 and 2. Assumes
 -- nothing.
-use Rattle.std.specs.Prelude.{ℕ, ◌*◌, ◌/◌, Bool, ◌&&◌, cond, List, ltb, eqb, nat_abs, length}
+use Rattle.std.specs.Prelude.{ℕ, ◌*◌, ◌/◌, Bool, ◌&&◌, cond, List, ltb, eqb, nat_abs, length, Err, Ok, Result}
 use Rattle.std.specs.Int.Signed.{non_neg}
 use Rattle.curve.specs.declared.Sheet.{Sheet}
 use Rattle.curve.specs.Limits.{sheet_within}
 use Rattle.layout.specs.declared.SheetRecord.{SheetRecord}
 use Rattle.layout.specs.Records.{sheet_at}
-use Rattle.sheets.specs.declared.Lookup.{Lookup}
+use Rattle.refusals.specs.declared.Refusal.{Refusal}
+use Rattle.refusals.specs.Numbers.{refusal_number}
+
+-- what a load finds: a sheet, or its refusal
+abbrev pub Lookup : Type 0
+Lookup = Result Sheet Refusal
 
 -- the paper's refusal number of a lookup, 0 if a sheet was found
 abbrev pub lookup_refusal : Lookup → ℕ
-lookup_refusal (Lookup.Found s) = 0
-lookup_refusal (Lookup.Refused number) = number
+lookup_refusal (Ok s) = 0
+lookup_refusal (Err why) = refusal_number why
 
 -- how many sheets the bytes hold
 abbrev pub sheets_held : List ℕ → ℕ
@@ -29,5 +34,5 @@ record_within r = non_neg r.a1 && non_neg r.a2 && non_neg r.a3 && sheet_within (
 unfoldable pub lookup_of : List ℕ → ℕ → Lookup
 lookup_of sheets index =
     cond (ltb index (sheets_held sheets))
-    (cond (record_within (sheet_at sheets (24 * index))) (Lookup.Found (as_sheet (sheet_at sheets (24 * index)))) (Lookup.Refused 2))
-    (Lookup.Refused 1)
+    (cond (record_within (sheet_at sheets (24 * index))) (Ok (as_sheet (sheet_at sheets (24 * index)))) (Err Refusal.BadSheet))
+    (Err Refusal.NoSheet)

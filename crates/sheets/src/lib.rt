@@ -8,28 +8,21 @@ use curve::Sheet;
 use curve::limits::sheet_within;
 use layout::SheetRecord;
 use layout::records::sheet_at;
-use rounding::widths::{non_negative, size};
+use refusals::Refusal;
 
-// What a load finds at its index: a sheet, or the refusal.
-#[derive(Clone, Copy)]
-pub enum Lookup {
-    Found(Sheet),
-    Refused(u8),
-}
-
-// The sheet at an index.
-pub fn find_sheet(sheets: &[u8], index: u32) -> Lookup
+// The sheet that a load finds at its index.
+pub fn find_sheet(sheets: &[u8], index: u32) -> Result<Sheet, Refusal>
     ensures { result ≡ lookup_of sheets.now index }
 {
     let i = index as usize;
     if sheets.len() / 24 <= i {
-        return Lookup::Refused(1);
+        return Err(Refusal::NoSheet);
     }
     let record = sheet_at(sheets, 24 * i);
     if !record_within(record) {
-        return Lookup::Refused(2);
+        return Err(Refusal::BadSheet);
     }
-    Lookup::Found(sheet_of(record))
+    Ok(sheet_of(record))
 }
 
 // A record's numbers as a sheet, for coefficients that are not below 0.
@@ -37,9 +30,9 @@ fn sheet_of(r: SheetRecord) -> Sheet
     ensures { result ≡ as_sheet r }
 {
     Sheet {
-        a1: size(r.a1),
-        a2: size(r.a2),
-        a3: size(r.a3),
+        a1: u64::from(r.a1.unsigned_abs()),
+        a2: u64::from(r.a2.unsigned_abs()),
+        a3: u64::from(r.a3.unsigned_abs()),
         t0: r.t0 as u64,
         k: r.k as u64,
     }
@@ -48,17 +41,5 @@ fn sheet_of(r: SheetRecord) -> Sheet
 fn record_within(r: SheetRecord) -> bool
     ensures { result ≡ record_within r }
 {
-    if !non_negative(r.a1) {
-        return false;
-    }
-    if !non_negative(r.a2) {
-        return false;
-    }
-    if !non_negative(r.a3) {
-        return false;
-    }
-    if !sheet_within(sheet_of(r)) {
-        return false;
-    }
-    r.rest == 0
+    r.a1 >= 0 && r.a2 >= 0 && r.a3 >= 0 && sheet_within(sheet_of(r)) && r.rest == 0
 }

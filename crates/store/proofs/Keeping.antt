@@ -1,5 +1,6 @@
 -- What a sample leaves stored: within its limits again; what a search gives, where it was so before; and, at the stored P and T, what stood
 -- there. So a sample goes by what a search gives. Assumes nothing.
+use Rattle.std.specs.Prelude.{None, Option, Some}
 use mathlib.Core.Bool.{Bool, true, false, cond, ◌&&◌}
 use mathlib.Core.Path.{◌≡◌, refl, sym, ap, subst, ◌∙◌}
 use Prim.Native.Nat.{ℕ, ◌≤◌}
@@ -8,15 +9,13 @@ use lib.Dec.{T, eqb}
 use Rattle.curve.specs.declared.Sheet.{Sheet}
 use Rattle.curve.specs.declared.Air.{Air}
 use Rattle.curve.proofs.Within.{both}
-use Rattle.reference.specs.declared.Found.{Found}
 use Rattle.reference.specs.Search.{found_value, reference_of}
 use Rattle.sampling.specs.declared.Cylinder.{Cylinder}
 use Rattle.sampling.specs.declared.Mode.{Mode}
 use Rattle.sampling.specs.declared.Measurement.{Measurement}
 use Rattle.sampling.specs.Sample.{air_of, checked_on, searched_of}
 use Rattle.sampling.proofs.Sizes.{finding_size}
-use Rattle.store.specs.declared.Stored.{Stored}
-use Rattle.store.specs.Store.{is_at, stored_as, finding_in, stored_on, stored_within, IsSearched}
+use Rattle.store.specs.Store.{Stored, is_at, stored_as, finding_in, stored_on, stored_within, IsSearched}
 
 -- the limit as the arithmetic asks it
 pub stored_size : (x : Stored) → stored_within x ≡ true → found_value (finding_in x) ≤ 150000000
@@ -66,22 +65,18 @@ stored_either P s (Mode.Against gas) at x h k = go (checked_on (Mode.Against gas
     go true false = k
 
 -- what a search finds may be stored
-pub as_within : (p t : ℕ) (f : Found) → found_value f ≤ 150000000 → stored_within (stored_as p t f) ≡ true
-as_within p t (Found.At r) h = le-leb r 150000000 h
-as_within p t Found.Nothing h = refl
+pub as_within : (p t : ℕ) (f : Option ℕ) → found_value f ≤ 150000000 → stored_within (stored_as p t f) ≡ true
+as_within p t f h = le-leb (found_value f) 150000000 h
 
-as_searched : (s : Sheet) (gas : Cylinder) (p t : ℕ) (f : Found) → reference_of s gas.c (record { p = p; t = t; e = gas.e }) ≡ f
+as_searched : (s : Sheet) (gas : Cylinder) (p t : ℕ) (f : Option ℕ) → reference_of s gas.c (record { p = p; t = t; e = gas.e }) ≡ f
     → IsSearched s (Mode.Against gas) (stored_as p t f)
-as_searched s gas p t (Found.At r) e = e
-as_searched s gas p t Found.Nothing e = e
+as_searched s gas p t f e = e
 
-pub finding_as : (p t : ℕ) (f : Found) → finding_in (stored_as p t f) ≡ f
-finding_as p t (Found.At r) = refl
-finding_as p t Found.Nothing = refl
+pub finding_as : (p t : ℕ) (f : Option ℕ) → finding_in (stored_as p t f) ≡ f
+finding_as p t f = refl
 
-pub is_at_as : (at : Measurement) (f : Found) → is_at (stored_as at.p at.t f) at ≡ true
-is_at_as at (Found.At r) = rw (eq-eqb at.p at.p refl, eq-eqb at.t at.t refl)
-is_at_as at Found.Nothing = rw (eq-eqb at.p at.p refl, eq-eqb at.t at.t refl)
+pub is_at_as : (at : Measurement) (f : Option ℕ) → is_at (stored_as at.p at.t f) at ≡ true
+is_at_as at f = rw (eq-eqb at.p at.p refl, eq-eqb at.t at.t refl)
 
 pub stays_within : (s : Sheet) (mode : Mode) (at : Measurement) (x : Stored) → stored_within x ≡ true → stored_within (stored_on s mode at x) ≡ true
 stays_within s mode at x h =
@@ -96,7 +91,7 @@ stays_searched s (Mode.Against gas) at x h = stored_either (IsSearched s (Mode.A
 -- ---- what a sample goes by
 module _ (s : Sheet) (at : Measurement) where
   -- what a search gave at the stored P and T it gives there again
-  again : (gas : Cylinder) (p t : ℕ) {f : Found} → reference_of s gas.c (record { p = p; t = t; e = gas.e }) ≡ f → (eqb p at.p && eqb t at.t) ≡ true
+  again : (gas : Cylinder) (p t : ℕ) {f : Option ℕ} → reference_of s gas.c (record { p = p; t = t; e = gas.e }) ≡ f → (eqb p at.p && eqb t at.t) ≡ true
       → f ≡ searched_of s (Mode.Against gas) (air_of at)
   again gas p t h e =
       let w = both (eqb p at.p) (eqb t at.t) e in
@@ -105,11 +100,9 @@ module _ (s : Sheet) (at : Measurement) where
       ∙ ap (λ (n : ℕ). reference_of s gas.c (record { p = at.p; t = n; e = gas.e })) (eqb-true t at.t w.1)
 
   pub agrees : (mode : Mode) (x : Stored) → IsSearched s mode x → is_at x at ≡ true → finding_in x ≡ searched_of s mode (air_of at)
-  agrees mode Stored.Empty h e = absurd (subst T (sym e) tt)
-  agrees Mode.Absolute (Stored.At p t r) h e = absurd h
-  agrees Mode.Absolute (Stored.Nothing p t) h e = absurd h
-  agrees (Mode.Against gas) (Stored.At p t r) h e = again gas p t h e
-  agrees (Mode.Against gas) (Stored.Nothing p t) h e = again gas p t h e
+  agrees mode None h e = absurd (subst T (sym e) tt)
+  agrees Mode.Absolute (Some x) h e = absurd h
+  agrees (Mode.Against gas) (Some x) h e = again gas x.p x.t h e
 
   -- where its inputs pass check 6, and what is stored, if it is of its P and T, is what a search gives, a sample goes by what a search gives
   pub goes_by_search : (gas : Cylinder) (x : Stored) → (is_at x at ≡ true → finding_in x ≡ searched_of s (Mode.Against gas) (air_of at))
@@ -123,10 +116,8 @@ module _ (s : Sheet) (at : Measurement) where
 
 -- what a search gives is within the limits of what is stored
 pub searched_within : (s : Sheet) (mode : Mode) (x : Stored) → IsSearched s mode x → stored_within x ≡ true
-searched_within s mode Stored.Empty h = refl
-searched_within s Mode.Absolute (Stored.At p t r) h = absurd h
-searched_within s Mode.Absolute (Stored.Nothing p t) h = refl
-searched_within s (Mode.Against gas) (Stored.At p t r) h =
-    let a : Air = record { p = p; t = t; e = gas.e } in
-    le-leb r 150000000 (subst (λ (f : Found). found_value f ≤ 150000000) h (finding_size s (Mode.Against gas) a))
-searched_within s (Mode.Against gas) (Stored.Nothing p t) h = refl
+searched_within s mode None h = refl
+searched_within s Mode.Absolute (Some x) h = absurd h
+searched_within s (Mode.Against gas) (Some x) h =
+    let a : Air = record { p = x.p; t = x.t; e = gas.e } in
+    le-leb (found_value x.r) 150000000 (subst (λ (f : Option ℕ). found_value f ≤ 150000000) h (finding_size s (Mode.Against gas) a))

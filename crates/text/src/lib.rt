@@ -7,7 +7,6 @@ ghost use Rattle.layout.specs.Lent.{Puts};
 ghost use Rattle.text.specs.Line.{decimal, signed_decimal, line_of, line_room};
 
 use layout::AnswerRecord;
-use rounding::signed::{below_zero, magnitude};
 
 // Puts the line of an answer: ordinal, kind, refusal, m, x, y.
 pub fn put_line(out: &mut [u8], at: usize, ordinal: u32, a: AnswerRecord) -> usize
@@ -16,25 +15,16 @@ pub fn put_line(out: &mut [u8], at: usize, ordinal: u32, a: AnswerRecord) -> usi
     ensures upper_bound { result ≤ at + line_room }
 {
     let at = put_decimal(out, at, ordinal as u64);
-    let at = put_spaced(out, at, a.kind as u64);
-    let at = put_spaced(out, at, a.refusal as u64);
-    let at = put_spaced(out, at, a.m as u64);
-    let at = put_spaced_signed(out, at, a.x);
-    let at = put_spaced_signed(out, at, a.y);
+    let at = put_spaced(out, at, a.kind as i64);
+    let at = put_spaced(out, at, a.refusal as i64);
+    let at = put_spaced(out, at, a.m as i64);
+    let at = put_spaced(out, at, a.x);
+    let at = put_spaced(out, at, a.y);
     put_byte(out, at, b'\n')
 }
 
 // Puts a number, with a space before it.
-fn put_spaced(out: &mut [u8], at: usize, n: u64) -> usize
-    requires { at + length (32 ∷ decimal n) ≤ length out.old }
-    ensures { Puts out.old at (32 ∷ decimal n) out.new result }
-{
-    let next = put_byte(out, at, b' ');
-    put_decimal(out, next, n)
-}
-
-// Puts a signed number, with a space before it.
-fn put_spaced_signed(out: &mut [u8], at: usize, x: i64) -> usize
+fn put_spaced(out: &mut [u8], at: usize, x: i64) -> usize
     requires { at + length (32 ∷ signed_decimal x) ≤ length out.old }
     ensures { Puts out.old at (32 ∷ signed_decimal x) out.new result }
 {
@@ -47,8 +37,8 @@ fn put_signed(out: &mut [u8], at: usize, x: i64) -> usize
     requires { at + length (signed_decimal x) ≤ length out.old }
     ensures { Puts out.old at (signed_decimal x) out.new result }
 {
-    let size = magnitude(x);
-    if below_zero(x) {
+    let size = x.unsigned_abs();
+    if x < 0 {
         let next = put_byte(out, at, b'-');
         put_decimal(out, next, size)
     } else {
@@ -62,10 +52,10 @@ pub fn put_decimal(out: &mut [u8], at: usize, n: u64) -> usize
     ensures { Puts out.old at (decimal n) out.new result }
 {
     if n < 10 {
-        put_byte(out, at, 48 + n as u8)
+        put_byte(out, at, b'0' + n as u8)
     } else {
         let next = put_decimal(out, at, n / 10);
-        put_byte(out, next, 48 + (n % 10) as u8)
+        put_byte(out, next, b'0' + (n % 10) as u8)
     }
 }
 

@@ -6,9 +6,10 @@ use borrow.Author.Tests.{leb-true}
 use lib.Dec.{leb}
 use lib.Signed.{non_neg}
 use lib.IntN.{ℤ, nat_abs}
+use Rattle.std.proofs.Common.{Option}
 use Rattle.calendar.specs.Dates.{valid_date}
 use Rattle.curve.proofs.Within.{both}
-use Rattle.timing.specs.declared.Clock.{Clock}
+use Rattle.timing.specs.declared.Moment.{Moment}
 use Rattle.timing.specs.declared.Times.{Times}
 use Rattle.timing.specs.Times.{loaded_times, told_at, spanned_at}
 use Rattle.timing.specs.Clock.{is_minute, not_earlier, takes_clock}
@@ -23,13 +24,13 @@ unfolding times_within
 clock_in t e = (both (issue_within t.issued) (clock_within t.clock) e).1
 
 -- what is taken for a clock: its date is one of the calendar, its minute is at most 1,439
-pub taken_date : (clock : Clock) (date : ℕ) (minute : ℤ) → takes_clock clock date minute ≡ true → valid_date date ≡ true
+pub taken_date : (clock : Option Moment) (date : ℕ) (minute : ℤ) → takes_clock clock date minute ≡ true → valid_date date ≡ true
 unfolding takes_clock
 taken_date clock date minute e =
     let a = both (valid_date date && is_minute minute) (not_earlier clock date (nat_abs minute)) e in
     (both (valid_date date) (is_minute minute) a.0).0
 
-pub taken_minute : (clock : Clock) (date : ℕ) (minute : ℤ) → takes_clock clock date minute ≡ true → nat_abs minute ≤ 1439
+pub taken_minute : (clock : Option Moment) (date : ℕ) (minute : ℤ) → takes_clock clock date minute ≡ true → nat_abs minute ≤ 1439
 unfolding takes_clock
 taken_minute clock date minute e =
     let a = both (valid_date date && is_minute minute) (not_earlier clock date (nat_abs minute)) e in

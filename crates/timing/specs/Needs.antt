@@ -1,9 +1,9 @@
 -- R-11, check 20: what a span and a sample need once the clock is told. And the dates that a state can hold. Assumes nothing.
-use Rattle.std.specs.Prelude.{ℕ, Bool, true, false, ◌&&◌, ◌||◌, eqb}
+use Rattle.std.specs.Prelude.{ℕ, Option, Some, None, Bool, true, false, ◌&&◌, ◌||◌, eqb}
 use Rattle.curve.specs.Limits.{within}
 use Rattle.calendar.specs.Dates.{valid_date}
 use Rattle.calendar.specs.Term.{serves}
-use Rattle.timing.specs.declared.Clock.{Clock}
+use Rattle.timing.specs.declared.Moment.{Moment}
 use Rattle.timing.specs.declared.SpanDay.{SpanDay}
 use Rattle.timing.specs.declared.Times.{Times}
 
@@ -26,14 +26,14 @@ set_today (SpanDay.On day) today = eqb day today
 -- ---- by the clock: until it is told, nothing is checked
 
 -- of spans and samples
-abbrev pub served_by : Clock → ℕ → Bool
-served_by Clock.Untold issued = true
-served_by (Clock.Told today minute) issued = in_hours minute && sheet_serves issued today
+abbrev pub served_by : Option Moment → ℕ → Bool
+served_by None issued = true
+served_by (Some now) issued = in_hours now.minute && sheet_serves issued now.date
 
 -- of samples
-abbrev pub spanned_today : Clock → SpanDay → Bool
-spanned_today Clock.Untold spanned = true
-spanned_today (Clock.Told today minute) spanned = set_today spanned today
+abbrev pub spanned_today : Option Moment → SpanDay → Bool
+spanned_today None spanned = true
+spanned_today (Some now) spanned = set_today spanned now.date
 
 -- ---- check 20: else 20
 unfoldable pub span_needs_met : Times → Bool
@@ -48,9 +48,9 @@ sample_needs_met times = span_needs_met times && spanned_today times.clock times
 abbrev pub issue_within : ℕ → Bool
 issue_within issued = eqb issued 0 || valid_date issued
 
-abbrev pub clock_within : Clock → Bool
-clock_within Clock.Untold = true
-clock_within (Clock.Told date minute) = valid_date date
+abbrev pub clock_within : Option Moment → Bool
+clock_within None = true
+clock_within (Some now) = valid_date now.date
 
 unfoldable pub times_within : Times → Bool
 times_within times = issue_within times.issued && clock_within times.clock

@@ -1,73 +1,35 @@
 // Whether sheets and events that are handed over as the bytes of their records, as a C program has them, can be written as a session file.
 #![tactic(auto)]
 
-ghost use Rattle.std.specs.Prelude.{◌≡◌, ◌+◌, ◌≤◌, length};
-ghost use Rattle.layout.specs.Records.{record_at};
-ghost use Rattle.contents.specs.Contents.{every, is_known};
-ghost use Rattle.contents.specs.Packed.{packed};
-ghost use Rattle.validation.specs.Parts.{part_right, pieces_in};
+ghost use Rattle.std.specs.Prelude.{◌≡◌, map};
+ghost use Rattle.entries.specs.Entries.{entry_of};
+ghost use Rattle.contents.specs.Contents.{every, is_plain, is_known, sheets_in};
+ghost use Rattle.contents.specs.Packed.{packed, events_in};
 
 use entries::entry_of;
 use layout::records::{event_at, sheet_at};
 use rules::Entry;
 
-// What the records of a slice are.
-#[derive(Clone, Copy)]
-pub enum Part {
-    Sheets,
-    Events,
-}
-
 // Whole records, each of them right: a sheet with its zero bytes, an event of a known kind with its.
+#[tactic(auto, unfolding(contents::specs::Packed::packed))]
 pub fn is_packed(sheets: &[u8], events: &[u8]) -> bool
     ensures { result ≡ packed sheets.now events.now }
 {
-    if sheets.len() % 24 != 0 {
-        return false;
-    }
-    if events.len() % 24 != 0 {
-        return false;
-    }
-    if !all_right(Part::Sheets, sheets) {
-        return false;
-    }
-    all_right(Part::Events, events)
+    sheets.len() % 24 == 0 && events.len() % 24 == 0 && are_plain(sheets) && are_known(events)
 }
 
-// Each record of a slice is right.
-fn all_right(part: Part, s: &[u8]) -> bool
-    ensures { result ≡ every (part_right part) (pieces_in s.now) }
+// The last four bytes of each sheet are zero.
+fn are_plain(sheets: &[u8]) -> bool
+    ensures { result ≡ every is_plain (sheets_in sheets.now) }
 {
-    let count = s.len() / 24;
-    let mut i = 0;
-    while i < count {
-        if !is_right(part, s, 24 * i) {
-            return false;
-        }
-        i += 1;
-    }
-    true
+    sheets
+        .chunks_exact(24)
+        .all(|sheet| sheet_at(sheet, 0).rest == 0)
 }
 
-// A sheet whose last four bytes are zero; an event of a known kind, zero where it must be.
-fn is_right(part: Part, s: &[u8], at: usize) -> bool
-    requires { at + 24 ≤ length s.now }
-    ensures { result ≡ part_right part (record_at s.now at) }
+// Each event is of a known kind, and zero where it must be.
+fn are_known(events: &[u8]) -> bool
+    ensures { result ≡ every is_known (map entry_of (events_in events.now)) }
 {
-    match part {
-        Part::Sheets => {
-            let sheet = sheet_at(s, at);
-            sheet.rest == 0
-        }
-        Part::Events => is_known(entry_of(event_at(s, at))),
-    }
-}
-
-fn is_known(entry: Entry) -> bool
-    ensures { result ≡ is_known entry }
-{
-    match entry {
-        Entry::Known(_) => true,
-        Entry::Malformed(_) => false,
-    }
+    events.chunks_exact(24).all(|event| matches!(entry_of(event_at(event, 0)), Entry::Known(_)))
 }

@@ -25,7 +25,8 @@ fn after_plain(text: &str, length: usize) -> &str {
 /// The text after a clause, from before its opening brace or the name that stands before it.
 fn after_clause(text: &str) -> &str {
     let named = text.trim_start();
-    let text = named.trim_start_matches(|c: char| c.is_ascii_lowercase() || c.is_ascii_digit() || c == '_');
+    let text = named
+        .trim_start_matches(|c: char| c.is_ascii_lowercase() || c.is_ascii_digit() || c == '_');
     assert!(text.trim_start().starts_with('{'), "a clause without braces");
     let mut depth = 0;
     for (i, c) in text.char_indices() {
@@ -39,13 +40,21 @@ fn after_clause(text: &str) -> &str {
     panic!("a clause without an end")
 }
 
-/// The text after `ghost`: a clause, or an item that imports what contracts cite.
+/// The text after `ghost`: a clause, an item that imports what contracts cite, or a field or a
+/// member of a trait, by its name, with the semicolon after it.
 fn after_ghost(text: &str) -> &str {
     if text.trim_start().starts_with('{') {
         return after_clause(text);
     }
-    assert!(text.starts_with(" use "), "a ghost is a clause or a use");
-    after_plain(text, text.find(';').expect("an item that ends") + 1)
+    if text.starts_with(" use ") {
+        return after_plain(text, text.find(';').expect("an item that ends") + 1);
+    }
+    let named =
+        text.trim_start().trim_start_matches(|c: char| c.is_ascii_alphanumeric() || c == '_');
+    let value = named.trim_start().strip_prefix([':', '=']).map(str::trim_start);
+    let value = value.filter(|value| value.starts_with('{'));
+    let rest = after_clause(value.expect("a ghost is a clause, a use, a field or a member"));
+    rest.trim_start().strip_prefix(';').unwrap_or(rest)
 }
 
 /// The text after a literal in quotes, if it begins with one: `"..."`, `'x'`, `'\x41'`.
@@ -154,11 +163,41 @@ pub fn parts(trees: &[Tree]) -> impl Iterator<Item = &[Tree]> {
     parts.filter(|part| !part.is_empty())
 }
 
-/// How many leaves are among these words, groups included.
-pub fn count(trees: &[Tree], words: &[&str]) -> usize {
+/// How many leaves are such words, groups included.
+pub fn count(trees: &[Tree], counts: fn(&str) -> bool) -> usize {
     let in_tree = |tree: &Tree| match tree {
-        Leaf(leaf) => usize::from(words.contains(&leaf.as_str())),
-        Group(_, inner) => count(inner, words),
+        Leaf(leaf) => usize::from(counts(leaf)),
+        Group(_, inner) => count(inner, counts),
     };
     trees.iter().map(in_tree).sum()
+}
+
+/// Words and signs put together, without the brackets that close.
+pub fn text(trees: &[Tree]) -> String {
+    let of_tree = |tree: &Tree| match tree {
+        Leaf(leaf) => leaf.clone(),
+        Group(open, inner) => open.clone() + &text(inner),
+    };
+    trees.iter().map(of_tree).collect()
+}
+
+/// The names of the parameters in angle brackets that begin at a place, lifetimes left out, and
+/// the place after them.
+pub fn parameters(trees: &[Tree], from: usize) -> (Vec<&str>, usize) {
+    let (mut names, mut depth) = (Vec::new(), 0);
+    if !is(trees, from, "<") {
+        return (names, from);
+    }
+    for i in from..trees.len() {
+        depth += usize::from(is(trees, i, "<"));
+        depth -= usize::from(is(trees, i, ">"));
+        if depth == 0 {
+            return (names, i + 1);
+        }
+        if i == from || (depth == 1 && is(trees, i, ",")) {
+            let at = i + 1 + usize::from(is(trees, i + 1, "const"));
+            names.extend(Some(at).filter(|at| is_name(trees, *at)).map(|at| word(trees, at)));
+        }
+    }
+    panic!("parameters without an end")
 }

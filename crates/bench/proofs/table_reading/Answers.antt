@@ -16,9 +16,9 @@ sheet = record { a1 = 142000000; a2 = 22580000; a3 = 1787000; t0 = 31335; k = 19
 abbrev air : Air
 air = record { p = 101300; t = 31335; e = 0 }
 
-pub returns : goal.returns
-returns c =
-    let r : SFits w64 c.in-Value.c = search rules in
+pub returns-in-Ok : goal.returns-in-Ok
+returns-in-Ok c =
+    let r : SFits w64 c.in-Ok.c = search rules in
     let f : SFits w64 c.args.v = search rules in
-    let q = sym (simp to_z-of_z at c.absolute.ensures) ∙ c.in-Value.is in
-    rw (to_z-of_z r) (value_size sheet air (omega arith) (omega arith) (accepted sheet c.args.v air c.in-Value.c q))
+    let q = sym (simp to_z-of_z at c.absolute.ensures) ∙ c.in-Ok.is in
+    rw (to_z-of_z r) (value_size sheet air (omega arith) (omega arith) (accepted sheet c.args.v air c.in-Ok.c q))

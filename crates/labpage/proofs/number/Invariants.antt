@@ -1,10 +1,7 @@
--- The digits read so far, and those that are left, say what the word says; each turn reads one more.
-use Rattle.std.proofs.Common.{length, ◌-◌}
-use Rattle.labpage.proofs.Digits.{Reading}
+-- The digits read so far, and those that are left, say what the word says.
+use Rattle.std.proofs.Common.{◌≡◌, drop}
+use Rattle.labpage.specs.Number.{number_from}
 use Rattle.labpage.proofs.number.Given as goal
 
-abbrev pub invariant-loop-i : goal.invariant-loop-i
-invariant-loop-i l = Reading l.word l.n l.i
-
-abbrev pub decreases-loop-i : goal.decreases-loop-i
-decreases-loop-i l = length l.word - l.i
+abbrev pub invariant-loop-b : goal.invariant-loop-b
+invariant-loop-b l = number_from l.n (drop l.b-index l.word) ≡ number_from 0 l.word

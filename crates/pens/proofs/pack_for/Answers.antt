@@ -1,22 +1,20 @@
-use native.Mathlib.Omega.{arith}
-use Rattle.std.proofs.lemmas.Grind.{common_steps}
-use borrow.Author.Tests.{ne_eqb}
+-- `pack_for` meets its contract, for a byte that names no kind and for one that does. Assumes nothing.
+use Rattle.std.proofs.Common.{◌∙◌, None, Some}
 use mir.Facts.{to_z-of_z}
+use Rattle.recorder.specs.Recorder.{pack_of}
 use Rattle.pens.specs.Pens.{pack_for}
+use Rattle.pens.proofs.ByKind.{by_kind}
 use Rattle.pens.proofs.pack_for.Goals as goal
 
-pub returns-in-0 : goal.returns-in-0
+pub returns-in_err-named : goal.returns-in_err-named
 unfolding pack_for
-returns-in-0 c =
-    let f = c.ranges.x in let g = c.ranges.x0 in let h = c.ranges.xf in
-    rw c.in-0.is (simp to_z-of_z at c.pack.ensures)
+returns-in_err-named c =
+    c.from_residual.ensures
+    ∙ by_kind c.args.kind None (λ k. pack_of k c.args.x c.args.x0 c.args.xf c.args.channel) None (c.in_err-named.ensures.value ∙ c.try_from.ensures)
 
-pub returns-in-1 : goal.returns-in-1
+pub returns : goal.returns
 unfolding pack_for
-returns-in-1 c =
+returns c =
     let f = c.ranges.x in let g = c.ranges.x0 in let h = c.ranges.xf in
-    rw c.in-1.is (simp to_z-of_z at c.pack-in-1.ensures)
-
-pub returns-in_default : goal.returns-in_default
-unfolding pack_for
-returns-in_default c = grind (arith, common_steps, ne_eqb)
+    (simp to_z-of_z at c.pack.ensures)
+    ∙ by_kind c.args.kind (Some c.in_ok-named.named) (λ k. pack_of k c.args.x c.args.x0 c.args.xf c.args.channel) None (c.in_ok-named.ensures.value ∙ c.try_from.ensures)

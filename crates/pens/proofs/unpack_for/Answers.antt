@@ -1,17 +1,14 @@
-use native.Mathlib.Omega.{arith}
+-- `unpack_for` meets its contract: what is done for the kind that a byte names. Assumes nothing.
+use Rattle.std.proofs.Common.{◌≡◌, ◌∙◌, None, Some, arith}
 use Rattle.std.proofs.lemmas.Grind.{common_steps}
-use borrow.Author.Tests.{ne_eqb}
+use Rattle.std.specs.Option.{option_map_or}
+use Rattle.recorder.specs.Recorder.{unpack_of}
 use Rattle.pens.specs.Pens.{unpack_for}
+use Rattle.pens.proofs.ByKind.{by_kind}
 use Rattle.pens.proofs.unpack_for.Goals as goal
 
-pub returns-in-0 : goal.returns-in-0
+pub returns : goal.returns
 unfolding unpack_for
-returns-in-0 c = rw (c.unpack.ensures, c.in-0.is)
-
-pub returns-in-1 : goal.returns-in-1
-unfolding unpack_for
-returns-in-1 c = rw (c.unpack-in-1.ensures, c.in-1.is)
-
-pub returns-in_default : goal.returns-in_default
-unfolding unpack_for
-returns-in_default c = grind (arith, common_steps, ne_eqb)
+returns c =
+    let mapped : c.map.result ≡ option_map_or (λ k. Some (unpack_of k c.args.word)) c.ok.result None = grind (arith, common_steps) in
+    mapped ∙ by_kind c.args.kind c.ok.result (λ k. Some (unpack_of k c.args.word)) None (c.ok.ensures.value ∙ c.try_from.ensures)

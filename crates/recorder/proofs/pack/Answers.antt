@@ -1,48 +1,50 @@
 -- `pack` meets its contract: what is accepted has a code that its twelve bits hold. Assumes nothing.
-use mathlib.Core.Path.{◌≡◌, ap}
-use borrow.Author.Rules.{rules}
+use Rattle.std.proofs.Common.{◌≡◌, ap, Some, rules, sym, true, false}
+use mathlib.Core.Bool.{and-false}
+use borrow.Author.Tests.{lt-ltb, le-ltb}
 use mir.Facts.{to_z-of_z}
 use mir.Syntax.{w64}
 use mir.Val.{SFits}
-use Rattle.rounding.proofs.Tests.{answered_no, answered_yes}
-use Rattle.recorder.specs.declared.Packed.TheVariants.{Word}
-use Rattle.recorder.specs.Recorder.{accepts, code_of, pack_of}
-use Rattle.recorder.proofs.Codes.{accepted_ends, code_within, size_within}
+use Rattle.recorder.specs.Recorder.{in_range, scales, code_of, pack_of}
+use Rattle.recorder.proofs.Codes.{accepts_is, code_within, size_within}
 use Rattle.recorder.proofs.pack.Goals as goal
-use Rattle.recorder.proofs.pack.Goals.{After-accepted, After-code}
+use Rattle.recorder.proofs.pack.Goals.{After-code, else-in_range-via-then-in_range+else-channel-lt16, else-in_range-via-else-in_range}
 
--- the test and the code, in the parameters' terms
-accepted_is : (c : After-accepted) → c.accepted.result ≡ accepts c.args.x c.args.x0 c.args.xf c.args.channel
-accepted_is c =
-    let f = c.ranges.x in let g = c.ranges.x0 in let h = c.ranges.xf in
-    simp to_z-of_z at c.accepted.ensures
-
+-- the code, in the parameters' terms
 code_is : (c : After-code) → c.code.result ≡ code_of c.args.kind c.args.x c.args.x0 c.args.xf
 code_is c =
     let f = c.ranges.x in let g = c.ranges.x0 in let h = c.ranges.xf in
-    simp to_z-of_z at c.code.ensures
+    simp (to_z-of_z, c.in_ok-scale.ensures.ends.0, c.in_ok-scale.ensures.ends.1) at c.code.ensures
 
-pub returns-then-not-accepted : goal.returns-then-not-accepted
+pub returns-in_err-scale : goal.returns-in_err-scale
 unfolding pack_of
-returns-then-not-accepted c = rw (answered_no (accepted_is (goal.at.returns-then-not-accepted c).After-accepted) c.if-not-accepted.true)
-
-pub code-requires : goal.code-requires
-code-requires c =
-    let f = c.ranges.x in let g = c.ranges.x0 in let h = c.ranges.xf in
-    simp to_z-of_z (accepted_ends c.args.x c.args.x0 c.args.xf c.args.channel (answered_yes (accepted_is (goal.at.code-requires c).After-accepted) c.if-not-accepted.false)).0
+returns-in_err-scale c =
+    let g = c.ranges.x0 in let h = c.ranges.xf in
+    let no : scales c.args.x0 c.args.xf ≡ false = sym (simp to_z-of_z at c.in_err-scale.ensures.made) in
+    simp (accepts_is, no, and-false) c.from_residual.ensures
 
 pub word-requires : goal.word-requires
 word-requires c =
-    let k = c.args.kind in let x = c.args.x in let x0 = c.args.x0 in let xf = c.args.xf in
     let r : SFits w64 c.code.result = search rules in
-    let w = code_within k x x0 xf in
-    simp to_z-of_z (
-      rw (code_is (goal.at.word-requires c).After-code) (size_within k (code_of k x x0 xf) w.0 w.1),
-      (accepted_ends x x0 xf c.args.channel (answered_yes (accepted_is (goal.at.word-requires c).After-accepted) c.if-not-accepted.false)).1,
-    )
+    let w = code_within c.args.kind c.args.x c.args.x0 c.args.xf in
+    simp to_z-of_z (rw (code_is (goal.at.word-requires c).After-code) (size_within c.args.kind _ w.0 w.1), c.if-channel-lt16.true)
 
-pub returns : goal.returns
+pub returns-then-channel-lt16 : goal.returns-then-channel-lt16
 unfolding pack_of
-returns c =
+returns-then-channel-lt16 c =
+    let f = c.ranges.x in let g = c.ranges.x0 in let h = c.ranges.xf in
     let r : SFits w64 c.code.result = search rules in
-    rw (answered_yes (accepted_is (goal.at.returns c).After-accepted) c.if-not-accepted.false) (ap Word (rw (code_is (goal.at.returns c).After-code) at (simp to_z-of_z at c.word.ensures)))
+    let made : scales c.args.x0 c.args.xf ≡ true = sym (simp to_z-of_z at c.in_ok-scale.ensures.made) in
+    let value : in_range c.args.x ≡ true = sym (simp to_z-of_z at c.if-in_range.ensures) in
+    let packed = rw (code_is (goal.at.returns-then-channel-lt16 c).After-code) at (simp to_z-of_z at c.word.ensures) in
+    simp (accepts_is, value, made, lt-ltb _ 16 c.if-channel-lt16.true) (ap Some packed)
+
+pub returns-else-in_range : goal.returns-else-in_range
+unfolding pack_of
+returns-else-in_range c =
+    let f = c.ranges.x in let g = c.ranges.x0 in let h = c.ranges.xf in
+    let made : scales c.args.x0 c.args.xf ≡ true = sym (simp to_z-of_z at c.in_ok-scale.ensures.made) in
+    elim c.else-in_range.branch [
+      | else-in_range-via-then-in_range+else-channel-lt16 w ↦ simp (accepts_is, made, le-ltb _ 16 w.if-channel-lt16.false, and-false)
+      | else-in_range-via-else-in_range w ↦ let no : in_range c.args.x ≡ false = sym (simp to_z-of_z at w.if-in_range.ensures) in simp (accepts_is, no)
+    ]

@@ -1,19 +1,18 @@
 -- `search` meets its contract: the middle's reading decides which half holds the first number that serves. Assumes nothing.
-use mathlib.Core.Path.{sym, ◌∙◌, ap}
+use mathlib.Core.Path.{◌≡◌, sym, ◌∙◌, ap}
 use mathlib.Core.Bool.{Bool}
 use Prim.Native.Nat.{ℕ, ◌+◌, ◌-◌, ◌/◌, ◌<◌, ◌≤◌}
 use native.Mathlib.Omega.{arith}
 use borrow.Author.Rules.{rules}
-use mir.Facts.{to_z-of_z}
+use mir.Facts.{to_z-of_z, to_z_pos}
 use mir.Syntax.{w64}
 use mir.Val.{SFits}
-use Rattle.rounding.proofs.Tests.{answered_no, answered_yes}
 use Rattle.curve.specs.declared.Sheet.{Sheet}
 use Rattle.curve.specs.declared.Air.{Air}
 use Rattle.reference.specs.declared.Sought.{Sought}
-use Rattle.reference.specs.Search.{serves}
+use Rattle.reference.specs.Search.{least, serves}
 use Rattle.reference.specs.Sought.{sought_reading}
-use Rattle.reference.proofs.Least.{least_none, lower_half, upper_half, found_below, found_here}
+use Rattle.reference.proofs.Least.{least_none, lower_half, upper_half, found_or}
 use Rattle.reference.proofs.Serving.{none_above, none_below, sought_rises, sought_over}
 use Rattle.reference.proofs.+search.Goals as goal
 
@@ -39,27 +38,22 @@ returns-in_default t c =
     let m = middle p.low p.high in
     rw c.search.ensures (lower_half (test p.s p.a p.sought p.cylinder) p.low m p.high (omega arith) (omega arith)
     (none_above (sought_reading p.s p.a p.sought) (sought_rises p.s p.a c.requires.0 c.requires.1 p.sought (p.high - 1) c.requires.3) p.cylinder m
-    (sought_over p.s p.a p.sought (p.high - 1) c.requires.3 m c.reading_at.ensures c.in_default.not-Value)))
-
-pub returns-then-not-at_least : goal.returns-then-not-at_least
-returns-then-not-at_least t c =
-    let p = c.args in
-    let m = middle p.low p.high in
-    let f : SFits w64 c.in-Value.c = search rules in
-    rw c.search-then-not-at_least.ensures (upper_half (test p.s p.a p.sought p.cylinder) p.low m p.high (omega arith) (omega arith)
-    (none_below (sought_reading p.s p.a p.sought) (sought_rises p.s p.a c.requires.0 c.requires.1 p.sought (p.high - 1) c.requires.3) p.cylinder m
-    (sym c.reading_at.ensures ∙ c.in-Value.is) (answered_no (simp to_z-of_z at c.at_least.ensures) c.if-not-at_least.true)))
-
-pub returns-in_default-search : goal.returns-in_default-search
-returns-in_default-search t c =
-    let p = c.args in
-    let m = middle p.low p.high in
-    let f : SFits w64 c.in-Value.c = search rules in
-    found_here (test p.s p.a p.sought p.cylinder) p.low m p.high (omega arith) (omega arith)
-    (rw c.search-2.ensures at c.in_default-search.is)
-    (ap (serves p.cylinder) (sym c.reading_at.ensures ∙ c.in-Value.is) ∙ answered_yes (simp to_z-of_z at c.at_least.ensures) c.if-not-at_least.false)
+    (sought_over p.s p.a p.sought (p.high - 1) c.requires.3 m c.reading_at.ensures c.in_default.not-Ok)))
 
 pub returns : goal.returns
 returns t c =
     let p = c.args in
-    found_below (test p.s p.a p.sought p.cylinder) p.low (middle p.low p.high) p.high (omega arith) (omega arith) (rw c.search-2.ensures at c.in-At.is)
+    let m = middle p.low p.high in
+    let f : SFits w64 c.in-Ok.c = search rules in
+    rw c.search-2.ensures (upper_half (test p.s p.a p.sought p.cylinder) p.low m p.high (omega arith) (omega arith)
+    (none_below (sought_reading p.s p.a p.sought) (sought_rises p.s p.a c.requires.0 c.requires.1 p.sought (p.high - 1) c.requires.3) p.cylinder m
+    (sym c.reading_at.ensures ∙ c.in-Ok.is) (rw (to_z_pos w64 {n = p.cylinder} (omega (arith, c.requires.2))) at (simp to_z-of_z at c.if-c-cylinder.false))))
+
+pub returns-then-c-cylinder : goal.returns-then-c-cylinder
+returns-then-c-cylinder t c =
+    let p = c.args in
+    let m = middle p.low p.high in
+    let f : SFits w64 c.in-Ok.c = search rules in
+    let e : least (test p.s p.a p.sought p.cylinder) p.low (m - p.low) ≡ c.search-then-c-cylinder.result = sym c.search-then-c-cylinder.ensures in
+    rw c.or.ensures (found_or (test p.s p.a p.sought p.cylinder) p.low m p.high (omega arith) (omega arith) e
+    (ap (serves p.cylinder) (sym c.reading_at.ensures ∙ c.in-Ok.is) ∙ (rw (to_z_pos w64 {n = p.cylinder} (omega (arith, c.requires.2))) at (simp to_z-of_z at c.if-c-cylinder.true))))

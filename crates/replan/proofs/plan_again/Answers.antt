@@ -4,8 +4,5 @@ use lib.ListN.{length-take}
 use Rattle.layout.proofs.Lent.{fills_within}
 use Rattle.replan.proofs.plan_again.Goals as goal
 
-pub slice_bounds-out-end : goal.slice_bounds-out-end
-slice_bounds-out-end g c = let w = fills_within c.replan-done.ensures in omega (arith, w)
-
 pub slice_bounds-write_all-end : goal.slice_bounds-write_all-end
-slice_bounds-write_all-end g c = let w = fills_within c.replan-done.ensures in simp length-take (omega (arith, w))
+slice_bounds-write_all-end g c = let w = fills_within c.in-Ok.ensures in simp length-take (omega (arith, w))

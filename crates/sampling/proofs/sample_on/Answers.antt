@@ -11,7 +11,7 @@ use Rattle.sampling.specs.Sample.{air_of, input_within, vapour_within, sampled_o
 use Rattle.sampling.proofs.Within.{InputOk, input_ok}
 use Rattle.sampling.proofs.Sizes.{signal_size}
 use Rattle.sampling.proofs.sample_on.Goals as goal
-use Rattle.sampling.proofs.sample_on.Goals.{After-from_raw-v, After-wide, Else-not-inputs_within}
+use Rattle.sampling.proofs.sample_on.Goals.{After-from_raw-v, After-from, Else-not-inputs_within}
 
 -- ---- what is known after check 6, and each result in the sample's terms
 passed : (c : Else-not-inputs_within) → (input_within c.args.at ≡ true) × (vapour_within c.args.mode (air_of c.args.at) ≡ true)
@@ -21,15 +21,15 @@ passed c =
 input : (c : Else-not-inputs_within) → InputOk c.args.at
 input c = input_ok c.args.at (passed c).0
 
-raw_is : (c : After-wide) → c.wide.result ≡ c.args.at.raw
+raw_is : (c : After-from) → c.from.result ≡ c.args.at.raw
 raw_is c =
     let f : SFits w32 c.args.at.raw = search rules in
-    simp to_z-of_z at c.wide.ensures
+    simp to_z-of_z at c.from.ensures
 
 signal_is : (c : After-from_raw-v) → c.from_raw-v.result ≡ signal_of c.args.at.raw c.args.q c.args.span
 signal_is c =
     let fq = c.ranges.q in
-    let fw : SFits w64 c.wide.result = search rules in
+    let fw : SFits w64 c.from.result = search rules in
     rw (raw_is c.before) at (simp to_z-of_z at c.from_raw-v.ensures)
 
 pub returns-then-not-inputs_within : goal.returns-then-not-inputs_within

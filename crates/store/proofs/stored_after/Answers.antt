@@ -4,7 +4,6 @@ use mathlib.Core.Bool.{true}
 use Rattle.curve.proofs.Within.{both}
 use Rattle.sampling.specs.Sample.{air_of, input_within, vapour_within, checked_on}
 use Rattle.sampling.proofs.Within.{input_ok}
-use Rattle.sampling.proofs.Sizes.{finding_size}
 use Rattle.store.proofs.Keeping.{left_absolute, left_by_6, stays_at, replaced}
 use Rattle.store.proofs.stored_after.Goals as goal
 use Rattle.store.proofs.stored_after.Goals.{Else-not-inputs_within}
@@ -26,11 +25,7 @@ searched-requires c =
     let w = both (input_within c.args.at) (vapour_within c.args.mode (air_of c.args.at)) (checked (goal.at.searched-requires c).Else-not-inputs_within) in
     (c.requires.0, rw c.air_of.ensures (input_ok c.args.at w.0).air, c.requires.1, rw c.air_of.ensures w.1)
 
-pub stored_as-requires : goal.stored_as-requires
-stored_as-requires c =
-    rw c.searched.ensures (finding_size c.args.s c.args.mode c.air_of.result)
-
 pub returns : goal.returns
 returns c =
-    rw (c.stored_as.ensures, c.searched.ensures, c.air_of.ensures)
+    rw (c.searched.ensures, c.air_of.ensures)
     (sym (replaced _ _ _ c.in-Against.is (checked (goal.at.returns c).Else-not-inputs_within) (sym c.is_at.ensures ∙ c.if-is_at.false)))

@@ -1,8 +1,9 @@
 -- `text::put_line` meets its contract: seven pieces, one after the other, whose bounds leave each its room. Assumes nothing.
-use Prim.Native.Nat.{◌+◌, ◌≤◌}
+use Prim.Native.Nat.{ℕ, ◌+◌, ◌^◌, ◌<◌, ◌≤◌}
 use native.Mathlib.Omega.{arith}
-use mathlib.Core.Path.{◌≡◌}
+use mathlib.Core.Path.{◌≡◌, ap}
 use lib.ListN.{length, length-append}
+use mir.Facts.{to_z_pos}
 use mir.Syntax.{w64}
 use mir.Val.{to_z, of_z}
 use borrow.Author.Rules.{rules}
@@ -18,6 +19,20 @@ kept_x s = search rules
 
 kept_y : (s : After-put_decimal-at) → to_z w64 (of_z w64 s.args.a.y) ≡ s.args.a.y
 kept_y s = search rules
+
+-- kind, refusal and m, which are numbers of 32 bits at most
+as_it_is : {n : ℕ} → n < 4294967296 → signed_decimal (to_z w64 n) ≡ decimal n
+unfolding signed_decimal
+as_it_is {n} h = let k : n < 2 ^ 63 = omega arith in rw (to_z_pos w64 k)
+
+as_kind : (s : After-put_decimal-at) → signed_decimal (to_z w64 s.args.a.kind) ≡ decimal s.args.a.kind
+as_kind s = let h : s.args.a.kind < 256 = search rules in as_it_is (omega arith)
+
+as_refusal : (s : After-put_decimal-at) → signed_decimal (to_z w64 s.args.a.refusal) ≡ decimal s.args.a.refusal
+as_refusal s = let h : s.args.a.refusal < 256 = search rules in as_it_is (omega arith)
+
+as_m : (s : After-put_decimal-at) → signed_decimal (to_z w64 s.args.a.m) ≡ decimal s.args.a.m
+as_m s = let h : s.args.a.m < 4294967296 = search rules in as_it_is h
 
 -- the line's length, its room, and as a sum
 fits : (s : After-put_decimal-at) → length (line_of s.args.ordinal s.args.a) ≤ line_room
@@ -36,27 +51,37 @@ sum s = rw (kept_x s, kept_y s) (let h = simp length-append at (room s) in omega
 half : (c : After-put_spaced-at-3) → let a = c.args.a in
     (c.put_spaced-at-3.result ≡ c.args.at + (length (decimal c.args.ordinal) + length (decimal a.kind) + length (decimal a.refusal)
     + length (decimal a.m) + 3)) × (length c.put_spaced-at-3.new.out ≡ length c.args.out.now)
-half c = (omega arith, omega arith)
+half c =
+    let a = c.args.a in
+    let h : a.kind < 256 = search rules in let i : a.refusal < 256 = search rules in let j : a.m < 4294967296 = search rules in
+    let k = ap length (as_it_is {n = a.kind} (omega arith)) in let r = ap length (as_it_is {n = a.refusal} (omega arith)) in let m = ap length (as_it_is j) in
+    (omega arith, omega arith)
 
 pub put_decimal-at-requires : goal.put_decimal-at-requires
 unfolding decimal
 put_decimal-at-requires c = omega (arith, at_most 20 9 c.args.ordinal (omega arith))
 
 pub put_spaced-at-requires : goal.put_spaced-at-requires
-put_spaced-at-requires c = omega (arith, sum (goal.at.put_spaced-at-requires c).After-put_decimal-at)
+put_spaced-at-requires c = let s = (goal.at.put_spaced-at-requires c).After-put_decimal-at in omega (arith, sum s, ap length (as_kind s))
 
 pub put_spaced-at-requires-2 : goal.put_spaced-at-requires-2
-put_spaced-at-requires-2 c = omega (arith, sum (goal.at.put_spaced-at-requires-2 c).After-put_decimal-at)
+put_spaced-at-requires-2 c =
+    let s = (goal.at.put_spaced-at-requires-2 c).After-put_decimal-at in
+    omega (arith, sum s, ap length (as_kind s), ap length (as_refusal s))
 
 pub put_spaced-at-requires-3 : goal.put_spaced-at-requires-3
-put_spaced-at-requires-3 c = omega (arith, sum (goal.at.put_spaced-at-requires-3 c).After-put_decimal-at)
+put_spaced-at-requires-3 c =
+    let s = (goal.at.put_spaced-at-requires-3 c).After-put_decimal-at in
+    omega (arith, sum s, ap length (as_kind s), ap length (as_refusal s), ap length (as_m s))
 
-pub put_spaced_signed-at-requires : goal.put_spaced_signed-at-requires
-put_spaced_signed-at-requires c = omega (arith, sum (goal.at.put_spaced_signed-at-requires c).After-put_decimal-at)
+pub put_spaced-at-requires-4 : goal.put_spaced-at-requires-4
+put_spaced-at-requires-4 c =
+    let s = (goal.at.put_spaced-at-requires-4 c).After-put_decimal-at in
+    omega (arith, sum s, ap length (as_kind s), ap length (as_refusal s), ap length (as_m s))
 
-pub put_spaced_signed-at-requires-2 : goal.put_spaced_signed-at-requires-2
-put_spaced_signed-at-requires-2 c =
-    let s = goal.at.put_spaced_signed-at-requires-2 c in
+pub put_spaced-at-requires-5 : goal.put_spaced-at-requires-5
+put_spaced-at-requires-5 c =
+    let s = goal.at.put_spaced-at-requires-5 c in
     omega (arith, sum s.After-put_decimal-at, half s.After-put_spaced-at-3)
 
 pub put_byte-requires : goal.put_byte-requires
@@ -66,8 +91,8 @@ pub returns : goal.returns
 unfolding line_of
 returns c =
     let s = (goal.at.returns c).After-put_decimal-at in
-    let p = puts_both c.put_decimal-at.ensures c.put_spaced-at.ensures in
-    let p = puts_both (puts_both p c.put_spaced-at-2.ensures) c.put_spaced-at-3.ensures in
-    let p = puts_both p (rw (kept_x s) at c.put_spaced_signed-at.ensures) in
-    let p = puts_both (puts_both p (rw (kept_y s) at c.put_spaced_signed-at-2.ensures)) c.put_byte.ensures in
+    let p = puts_both c.put_decimal-at.ensures (rw (as_kind s) at c.put_spaced-at.ensures) in
+    let p = puts_both (puts_both p (rw (as_refusal s) at c.put_spaced-at-2.ensures)) (rw (as_m s) at c.put_spaced-at-3.ensures) in
+    let p = puts_both p (rw (kept_x s) at c.put_spaced-at-4.ensures) in
+    let p = puts_both (puts_both p (rw (kept_y s) at c.put_spaced-at-5.ensures)) c.put_byte.ensures in
     record { puts = p; upper_bound = omega (arith, p.ends, fits s) }

@@ -1,7 +1,7 @@
 -- `grounds::naming::ground_of` meets its contract: without an answer of 8 there is no ground, an entry that is no sample has none, and a sample that is
 -- refused with 8 has what `named` finds with the finding that it left stored. Assumes nothing.
 use mathlib.Core.Bool.{true}
-use mathlib.Core.Path.{◌≡◌, sym, ◌∙◌}
+use mathlib.Core.Path.{◌≡◌, sym, ap, ◌∙◌}
 use lib.Dec.{eqb}
 use Rattle.rounding.proofs.Tests.{answered_no, answered_yes}
 use Rattle.sampling.specs.declared.Measurement.{Measurement}
@@ -23,10 +23,10 @@ eight {st} at x e h =
     let q : _ ≡ step_of x.sheets st (Entry.Known (Sample at)) = rw e at x.is in
     rw q (over x.sheets st at (rw q at h))
 
-entry_is : (c : After-finding_in) → c.args.entry ≡ Entry.Known (Sample c.in-Sample.at)
-entry_is c = rw (← c.in-Sample.is) c.in-Known.is
+entry_is : (c : After-finding_in) → c.args.entry ≡ Entry.Known (Sample c.in-Known-Sample.at)
+entry_is c = let x = c.in-Known-Sample in x.is ∙ ap Entry.Known (rw x.is at x.field-0-is)
 
-told : (c : After-finding_in) → Over c.args.st c.in-Sample.at c.args.next.state
+told : (c : After-finding_in) → Over c.args.st c.in-Known-Sample.at c.args.next.state
 told c =
     eight _ c.requires (entry_is c) (answered_yes c.over_range.ensures c.if-not-over_range.false)
 

@@ -3,15 +3,18 @@ use Prim.Native.Nat.{ℕ, suc, ◌+◌, ◌-◌, ◌/◌, ◌%◌, ◌≤◌, �
 use native.Mathlib.Omega.{arith}
 use mathlib.Core.Bool.{true, false}
 use mathlib.Core.List.{List, [], ◌∷◌, ◌++◌, append_assoc, append-nil}
-use mathlib.Core.Path.{◌≡◌, refl, sym}
+use mathlib.Core.Path.{◌≡◌, refl, sym, ◌∙◌}
 use lib.IntN.{ℤ, pos, negsuc, nat_abs}
 use lib.Signed.{lt_z}
 use lib.ListN.{length, length-append, length-replicate, replicate-append-replicate}
 use borrow.Author.Tests.{ltb-true}
 use Rattle.layout.specs.Lent.{Puts}
-use Rattle.layout.proofs.Lent.{puts_both, puts_over}
+use Rattle.layout.proofs.Lent.{puts_over}
 use Rattle.text.specs.Line.{decimal}
+use Rattle.text.specs.declared.writer.Writer.{Writer}
+use Rattle.text.specs.Writing.{Writes}
 use Rattle.text.proofs.Decimal.{at_most}
+use Rattle.text.proofs.Writing.{writes_both}
 use Rattle.rounding.proofs.Nearest.{near_size}
 use Rattle.figures.specs.Figures.{spaces, right, hundredths, pointed, signed_pointed, figure, sign_byte}
 
@@ -20,18 +23,19 @@ pub right_length : (width : ℕ) (s : List ℕ) → length s ≤ width → lengt
 unfolding right
 right_length width s h = rw (length-append, length-replicate) (omega arith)
 
--- a column of spaces, and the text over its right end
-pub in_column : (width : ℕ) (s : List ℕ) {old mid out : List ℕ} {at past p r : ℕ} → length s ≤ width → Puts old at (spaces width) mid past
-    → Puts mid p s out r → p ≡ at + (width - length s) → Puts old at (right width s) out r × (r ≡ at + width)
+-- a column of spaces, and from where the writer is set back to, the text over its right end
+pub in_column : (width : ℕ) (s : List ℕ) {old mid new : Writer} {p : ℕ} → length s ≤ width → Writes old (spaces width) mid
+    → Writes (record { out = mid.out; at = p }) s new → p ≡ old.at + (width - length s) → Writes old (right width s) new × (new.at ≡ old.at + width)
 unfolding right
-in_column width s {old} {mid} {out} {at} {r = r} h f g e =
+in_column width s {old} {mid} {new} h f g e =
     let blank = width - length s in
     let l : length (spaces blank) ≡ blank = length-replicate {A = ℕ} blank 32 in
     let z : blank + length s ≡ width = omega arith in
     let c : spaces width ≡ spaces blank ++ spaces (length s) = rw (replicate-append-replicate {A = ℕ} blank (length s) 32, z) in
-    let d : Puts mid (at + length (spaces blank)) s out r = rw (l, ← e) g in
-    let q = puts_over (spaces blank) (spaces (length s)) s (rw c at f) (length-replicate {A = ℕ} (length s) 32) d in
-    (q, omega (arith, q.ends, length-append (spaces blank) s))
+    let d : Puts mid.out.now (old.at + length (spaces blank)) s new.out.now new.at = rw (l, ← e) g.puts in
+    let q = puts_over (spaces blank) (spaces (length s)) s (rw c at f.puts) (length-replicate {A = ℕ} (length s) 32) d in
+    (record { same_buffer = g.same_buffer ∙ f.same_buffer; same_length = g.same_length ∙ f.same_length; puts = q },
+    omega (arith, q.ends, length-append (spaces blank) s))
 
 -- a column with nothing in it
 pub blank_column : (width : ℕ) → right width [] ≡ spaces width
@@ -52,13 +56,13 @@ unfolding pointed
 pointed_length n = rw length-append
 
 -- put piece by piece
-pub pointed_put : (n : ℕ) {old o1 o2 o3 o4 : List ℕ} {at p1 p2 p3 p4 : ℕ} → Puts old at (decimal (n / 100)) o1 p1 → Puts o1 p1 (46 ∷ []) o2 p2
-    → Puts o2 p2 ((48 + n % 100 / 10) ∷ []) o3 p3 → Puts o3 p3 ((48 + n % 10) ∷ []) o4 p4 → Puts old at (pointed n) o4 p4
+pub pointed_put : (n : ℕ) {w0 w1 w2 w3 w4 : Writer} → Writes w0 (decimal (n / 100)) w1 → Writes w1 (46 ∷ []) w2
+    → Writes w2 ((48 + n % 100 / 10) ∷ []) w3 → Writes w3 ((48 + n % 10) ∷ []) w4 → Writes w0 (pointed n) w4
 unfolding pointed
 pointed_put n d p x y =
     let e : decimal (n / 100) ++ (46 ∷ []) ++ ((48 + n % 100 / 10) ∷ []) ++ ((48 + n % 10) ∷ [])
     ≡ decimal (n / 100) ++ (46 ∷ (48 + n % 100 / 10) ∷ (48 + n % 10) ∷ []) = simp append_assoc in
-    rw e at (puts_both (puts_both (puts_both d p) x) y)
+    rw e at (writes_both (writes_both (writes_both d p) x) y)
 
 -- ten digits hold the whole part, and six an ordinal
 pub whole_most : (n : ℕ) → n < 1000000000000 → length (decimal (n / 100)) ≤ 10

@@ -3,7 +3,7 @@
 #![tactic(auto)]
 
 ghost use Rattle.std.specs.Prelude.{◌≡◌, ◌+◌, ◌≤◌, ◌<◌, length};
-ghost use Rattle.layout.specs.Lent.{Puts};
+ghost use Rattle.text.specs.Writing.{Writes};
 ghost use Rattle.rules.specs.Answer.{m_of};
 ghost use Rattle.engine.specs.Step.{SteppedBy};
 ghost use Rattle.engine.specs.Transcript.{line_at, record_with};
@@ -16,7 +16,7 @@ use grounds::number_of;
 use layout::records::put_answer;
 use layout::{AnswerRecord, EventRecord};
 use rules::{Answer, State, Stepped};
-use text::{put_byte, put_line};
+use text::writer::Writer;
 
 // The answers of a file as records of 24 bytes, or as printed lines; or the grounds of those that are over range, a byte each (R-9).
 #[derive(Clone, Copy)]
@@ -37,32 +37,30 @@ pub fn room_of(form: Form) -> usize
     }
 }
 
-// Puts what a form has of event i, counted from 0, and answers the position past it: the event found the engine at `before`, and gave
-// `next`.
+// Puts what a form has of event i, counted from 0: the event found the engine at `before`, and gave `next`.
 pub fn emit(
     form: Form,
-    out: &mut [u8],
-    at: usize,
+    to: &mut Writer<'_>,
     i: usize,
     before: State,
     event: EventRecord,
     next: Stepped,
-) -> usize
-    requires { (i < 2700) × (at + room_of form ≤ length out.old) × (m_of next.answer < 4294967296) × SteppedBy before (entry_of event) next }
-    ensures puts { Puts out.old at (emitted form (i + 1) (line_at before (entry_of event) next)) out.new result }
-    ensures upper_bound { result ≤ at + room_of form }
+)
+    requires { (i < 2700) × (to.old.at + room_of form ≤ length to.old.out.now) × (m_of next.answer < 4294967296) × SteppedBy before (entry_of event) next }
+    ensures puts { Writes to.old (emitted form (i + 1) (line_at before (entry_of event) next)) to.new }
+    ensures upper_bound { to.new.at ≤ to.old.at + room_of form }
 {
     let answer = next.answer;
     let a = record_of(event.kind, answer);
     match form {
         Form::Records => {
-            put_answer(out, at, a);
-            at + 24
+            put_answer(to.out, to.at, a);
+            to.at += 24;
         }
-        Form::Lines => put_line(out, at, i as u32 + 1, a),
+        Form::Lines => to.line(i as u32 + 1, a),
         Form::Grounds => {
             let ground = ground_of(before, entry_of(event), next);
-            put_byte(out, at, number_of(ground))
+            to.byte(number_of(ground));
         }
     }
 }

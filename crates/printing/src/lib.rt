@@ -11,7 +11,7 @@ ghost use Rattle.printing.specs.Text.{refused_line, printed_of};
 use answers::fill;
 use forms::Form;
 use layout::{AnswerRecord, TurnedAway};
-use text::put_line;
+use text::writer::Writer;
 
 // Puts what the program prints for a file at the start of out, which has room for the longest line of each of 2,700 events, and
 // answers how long it is. A refused file has one line.
@@ -46,5 +46,7 @@ fn put_refused(out: &mut [u8]) -> usize
         x: 0,
         y: 0,
     };
-    put_line(out, 0, 0, refused)
+    let mut writer = Writer { out, at: 0 };
+    writer.line(0, refused);
+    writer.at
 }

@@ -7,9 +7,10 @@ use mathlib.Core.Path.{◌≡◌, refl}
 use lib.IntN.{ℤ, pos, nat_abs, ◌-ℤ◌}
 use lib.ListN.{length, length-append}
 use Rattle.rounding.proofs.Integers.{abs_sub}
-use Rattle.layout.specs.Lent.{Puts}
-use Rattle.layout.proofs.Lent.{puts_both}
+use Rattle.text.specs.declared.writer.Writer.{Writer}
 use Rattle.text.specs.Line.{decimal}
+use Rattle.text.specs.Writing.{Writes}
+use Rattle.text.proofs.Writing.{writes_both}
 use Rattle.sampling.specs.declared.Mode.{Mode}
 use Rattle.sampling.specs.Sample.{mode_within}
 use Rattle.sampling.proofs.Within.{gas_in}
@@ -84,10 +85,9 @@ module _ (ordinal : ℕ) (mode : Mode) (wet dry : ℤ) (o : ordinal < 1000000) (
       (fitting_figure dry (omega arith)) (third_most mode wet m w)
 
 -- ---- a line put piece by piece
-pub line_put : (a b c d : List ℕ) {old o1 o2 o3 o4 o5 : List ℕ} {at p1 p2 p3 p4 p5 : ℕ} → Puts old at (right 6 a) o1 p1
-    → Puts o1 p1 (right 14 b) o2 p2 → Puts o2 p2 (right 14 c) o3 p3 → Puts o3 p3 (right 14 d) o4 p4 → Puts o4 p4 (spaces 24 ++ (10 ∷ [])) o5 p5
-    → Puts old at (columns a b c d) o5 p5
+pub line_put : (a b c d : List ℕ) {w0 w1 w2 w3 w4 w5 : Writer} → Writes w0 (right 6 a) w1 → Writes w1 (right 14 b) w2
+    → Writes w2 (right 14 c) w3 → Writes w3 (right 14 d) w4 → Writes w4 (spaces 24 ++ (10 ∷ [])) w5 → Writes w0 (columns a b c d) w5
 unfolding columns
 line_put a b c d f1 f2 f3 f4 f5 =
     rw (append_assoc (right 6 a ++ right 14 b ++ right 14 c ++ right 14 d) (spaces 24) (10 ∷ []))
-    (puts_both (puts_both (puts_both (puts_both f1 f2) f3) f4) f5)
+    (writes_both (writes_both (writes_both (writes_both f1 f2) f3) f4) f5)

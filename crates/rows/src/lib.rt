@@ -1,16 +1,17 @@
-// The lines of a page for the lab book, put into a lent buffer: a line for an accepted sample, and a header line before it where one is
-// due. Each function answers the position past what it put, and all other bytes stay.
+// The lines of a page for the lab book, put by a writer: a line for an accepted sample, and a header line before it where one is due. All
+// other bytes of its buffer stay.
 #![tactic(auto)]
 
 ghost use Rattle.std.specs.Prelude.{◌≡◌, true, ◌+◌, ◌≤◌, ◌<◌, nat_abs, length, Some};
-ghost use Rattle.layout.specs.Lent.{Puts};
 ghost use Rattle.sampling.specs.Sample.{mode_within};
+ghost use Rattle.text.specs.Writing.{Writes};
 ghost use Rattle.figures.specs.Figures.{right};
 ghost use Rattle.rows.specs.Rows.{Columned, shown_of, third_of, sample_line, header_due, rows_of, under_headers, joined};
 
 use figures::{put_figure, put_ordinal, put_text};
 use rules::Answer;
 use sampling::Mode;
+use text::writer::Writer;
 
 // The values of an accepted sample, as a line shows them.
 #[derive(Clone, Copy)]
@@ -32,63 +33,56 @@ pub fn shown_of(answer: Answer) -> Option<Shown>
 // Puts the lines of an event, which is answered in this mode, with so many sample lines on the page already and a header line at every so
 // many of them.
 pub fn put_rows(
-    out: &mut [u8],
-    at: usize,
+    to: &mut Writer<'_>,
     every: usize,
     samples: usize,
     ordinal: u64,
     mode: Mode,
     shown: Option<Shown>,
-) -> usize
-    requires { (0 < every) × (ordinal < 1000000) × Columned mode shown × (at + length (joined (under_headers every samples (rows_of ordinal mode shown))) ≤ length out.old) }
-    ensures { Puts out.old at (joined (under_headers every samples (rows_of ordinal mode shown))) out.new result }
+)
+    requires { (0 < every) × (ordinal < 1000000) × Columned mode shown × (to.old.at + length (joined (under_headers every samples (rows_of ordinal mode shown))) ≤ length to.old.out.now) }
+    ensures { Writes to.old (joined (under_headers every samples (rows_of ordinal mode shown))) to.new }
 {
-    match shown {
-        None => at,
-        Some(sample) => {
-            let next = put_header_due(out, at, every, samples);
-            put_sample(out, next, ordinal, mode, sample)
-        }
+    if let Some(sample) = shown {
+        put_header_due(to, every, samples);
+        put_sample(to, ordinal, mode, sample);
     }
 }
 
 // Puts the header line where one is due before a sample line that so many others precede.
-fn put_header_due(out: &mut [u8], at: usize, every: usize, samples: usize) -> usize
-    requires { (0 < every) × (at + length (joined (header_due every samples)) ≤ length out.old) }
-    ensures { Puts out.old at (joined (header_due every samples)) out.new result }
+fn put_header_due(to: &mut Writer<'_>, every: usize, samples: usize)
+    requires { (0 < every) × (to.old.at + length (joined (header_due every samples)) ≤ length to.old.out.now) }
+    ensures { Writes to.old (joined (header_due every samples)) to.new }
 {
     if samples % every == 0 {
         put_text(
-            out,
-            at,
+            to,
             b"    no           wet           dry          diff                        \n",
-        )
-    } else {
-        at
+        );
     }
 }
 
 // Puts the line of a sample: its event's ordinal, wet, dry, and wet less the reference's cylinder.
-fn put_sample(out: &mut [u8], at: usize, ordinal: u64, mode: Mode, sample: Shown) -> usize
-    requires { (at + 73 ≤ length out.old) × (ordinal < 1000000) × Columned mode (Some sample) }
-    ensures { Puts out.old at (sample_line ordinal mode sample.wet sample.dry) out.new result }
+fn put_sample(to: &mut Writer<'_>, ordinal: u64, mode: Mode, sample: Shown)
+    requires { (to.old.at + 73 ≤ length to.old.out.now) × (ordinal < 1000000) × Columned mode (Some sample) }
+    ensures { Writes to.old (sample_line ordinal mode sample.wet sample.dry) to.new }
 {
-    let next = put_ordinal(out, at, ordinal);
-    let next = put_figure(out, next, sample.wet);
-    let next = put_figure(out, next, sample.dry);
-    let next = put_third(out, next, mode, sample.wet);
-    put_text(out, next, b"                        \n")
+    put_ordinal(to, ordinal);
+    put_figure(to, sample.wet);
+    put_figure(to, sample.dry);
+    put_third(to, mode, sample.wet);
+    put_text(to, b"                        \n");
 }
 
 // Puts wet less the reference's cylinder at the right end of 14 columns, which are blank in absolute mode. The difference is rounded, and not
 // the two that it is of.
-fn put_third(out: &mut [u8], at: usize, mode: Mode, wet: i64) -> usize
-    requires { (at + 14 ≤ length out.old) × (mode_within mode ≡ true) × (nat_abs wet < 9007199254740992) }
-    ensures puts { Puts out.old at (right 14 (third_of mode wet)) out.new result }
-    ensures value { result ≡ at + 14 }
+fn put_third(to: &mut Writer<'_>, mode: Mode, wet: i64)
+    requires { (to.old.at + 14 ≤ length to.old.out.now) × (mode_within mode ≡ true) × (nat_abs wet < 9007199254740992) }
+    ensures puts { Writes to.old (right 14 (third_of mode wet)) to.new }
+    ensures value { to.new.at ≡ to.old.at + 14 }
 {
     match mode {
-        Mode::Absolute => put_text(out, at, b"              "),
-        Mode::Against(gas) => put_figure(out, at, wet - gas.c as i64),
+        Mode::Absolute => put_text(to, b"              "),
+        Mode::Against(gas) => put_figure(to, wet - gas.c as i64),
     }
 }

@@ -3,7 +3,7 @@ use native.Mathlib.Omega.{arith}
 use mathlib.Core.Path.{ap}
 use lib.ListN.{length}
 use borrow.Author.Tests.{eq-eqb, ne_eqb}
-use Rattle.layout.proofs.Lent.{puts_none}
+use Rattle.text.proofs.Writing.{writes_none}
 use Rattle.figures.specs.Figures.{right}
 use Rattle.rows.specs.Rows.{columns}
 use Rattle.rows.proofs.Lines.{header_wide, wide_length}
@@ -21,4 +21,4 @@ returns-then-samples-every-eq0 c =
 
 pub returns-else-samples-every-eq0 : goal.returns-else-samples-every-eq0
 returns-else-samples-every-eq0 c =
-    rw (undue c.args.every c.args.samples (ne_eqb _ _ c.if-samples-every-eq0.false)) (puts_none c.args.out.now c.args.at (omega (arith, c.requires.1)))
+    rw (undue c.args.every c.args.samples (ne_eqb _ _ c.if-samples-every-eq0.false)) (writes_none c.args.to.now (omega (arith, c.requires.1)))

@@ -1,14 +1,14 @@
 -- `rows::put_rows` meets its contract: nothing, or the header line where one is due and the sample's. Assumes nothing.
 use native.Mathlib.Omega.{arith}
 use lib.ListN.{length-append}
-use Rattle.layout.proofs.Lent.{puts_both}
+use Rattle.text.proofs.Writing.{writes_both}
 use Rattle.rows.specs.Rows.{sample_line}
 use Rattle.rows.proofs.Lines.{sample_wide, wide_length}
 use Rattle.rows.proofs.Headers.{one_row}
 use Rattle.rows.proofs.put_rows.Goals as goal
 
-pub put_header_due-next-requires : goal.put_header_due-next-requires
-put_header_due-next-requires c =
+pub put_header_due-requires : goal.put_header_due-requires
+put_header_due-requires c =
     let a = c.args in
     let g = c.in-Some in
     let p = rw (g.is, one_row a.every a.samples (sample_line a.ordinal a.mode g.sample.wet g.sample.dry), length-append) at c.requires.3 in
@@ -28,4 +28,4 @@ returns-in-Some c =
     let a = c.args in
     let g = c.in-Some in
     rw (g.is, one_row a.every a.samples (sample_line a.ordinal a.mode g.sample.wet g.sample.dry))
-    (puts_both c.put_header_due-next.ensures c.put_sample.ensures)
+    (writes_both c.put_header_due.ensures c.put_sample.ensures)

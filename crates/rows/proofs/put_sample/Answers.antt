@@ -14,6 +14,6 @@ returns c =
     let a = c.args in
     let fw : SFits w64 a.sample.wet = search rules in
     let fd : SFits w64 a.sample.dry = search rules in
-    line_put (decimal a.ordinal) (figure a.sample.wet) (figure a.sample.dry) (third_of a.mode a.sample.wet) c.put_ordinal-next.ensures.puts
-    (simp to_z-of_z at c.put_figure-next.ensures.puts) (simp to_z-of_z at c.put_figure-next-2.ensures.puts) (simp to_z-of_z at c.put_third-next.ensures.puts)
+    line_put (decimal a.ordinal) (figure a.sample.wet) (figure a.sample.dry) (third_of a.mode a.sample.wet) c.put_ordinal.ensures.puts
+    (simp to_z-of_z at c.put_figure.ensures.puts) (simp to_z-of_z at c.put_figure-2.ensures.puts) (simp to_z-of_z at c.put_third.ensures.puts)
     c.put_text.ensures

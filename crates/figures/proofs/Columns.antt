@@ -33,9 +33,10 @@ in_column width s {old} {mid} {new} h f g e =
     let z : blank + length s ≡ width = omega arith in
     let c : spaces width ≡ spaces blank ++ spaces (length s) = rw (replicate-append-replicate {A = ℕ} blank (length s) 32, z) in
     let d : Puts mid.out.now (old.at + length (spaces blank)) s new.out.now new.at = rw (l, ← e) g.puts in
-    let q = puts_over (spaces blank) (spaces (length s)) s (rw c at f.puts) (length-replicate {A = ℕ} (length s) 32) d in
-    (record { same_buffer = g.same_buffer ∙ f.same_buffer; same_length = g.same_length ∙ f.same_length; puts = q },
-    omega (arith, q.ends, length-append (spaces blank) s))
+    let q = puts_over (spaces blank) (spaces (length s)) s (rw c at f.puts) (length-replicate {A = ℕ} (length s) 32) d in (
+      record { same_buffer = g.same_buffer ∙ f.same_buffer; same_length = g.same_length ∙ f.same_length; puts = q },
+      omega (arith, q.ends, length-append (spaces blank) s),
+    )
 
 -- a column with nothing in it
 pub blank_column : (width : ℕ) → right width [] ≡ spaces width

@@ -146,7 +146,7 @@ fn nothing_else_rounds() {
         ("rows::put_header_due", 1),
         ("sheets::find_sheet", 1),
         ("text::digits", 1),
-        ("text::put_decimal", 2),
+        ("text::writer::Writer::decimal", 2),
         ("validation::is_packed", 2),
     ];
     assert_eq!(Sources::of(&crates()).dividing(), places.into());

@@ -50,9 +50,9 @@ impl Figures {
         }
     }
 
-    fn refused(why: Refusal) -> Self {
+    fn refused(refusal: u8) -> Self {
         Figures {
-            refusal: why.number(),
+            refusal,
             m: 0,
             x: 0,
             y: 0,
@@ -68,7 +68,7 @@ impl From<Answer> for Figures {
             Answer::Spanned(s) => Figures::accepted(s, 0, 0),
             Answer::Reading { r, wet, dry } => Figures::accepted(r, wet, dry),
             Answer::Area { n, area } => Figures::accepted(n, area, 0),
-            Answer::Refused(why) => Figures::refused(why),
+            Answer::Refused(number) => Figures::refused(number),
         }
     }
 }
@@ -77,7 +77,7 @@ impl From<Result<SampleValues, Refusal>> for Figures {
     fn from(x: Result<SampleValues, Refusal>) -> Self {
         match x {
             Ok(v) => Figures::accepted(v.r, v.wet, v.dry),
-            Err(why) => Figures::refused(why),
+            Err(why) => Figures::refused(why.number()),
         }
     }
 }

@@ -210,7 +210,7 @@ impl fmt::Display for Said {
     fn fmt<W: fmt::Write>(&self, f: &mut fmt::Formatter<W>) -> fmt::Result {
         match self.0 {
             Answer::Area { n, area } => write!(f, "{n} {area}"),
-            Answer::Refused(why) => write!(f, "refused {}", why.number()),
+            Answer::Refused(number) => write!(f, "refused {number}"),
             _ => f.write_str("accepted"),
         }
     }

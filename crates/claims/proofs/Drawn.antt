@@ -1,5 +1,4 @@
 -- Every wet value can be drawn: it is at most 3,000,000,000 in size. Assumes nothing.
-use Rattle.refusals.specs.declared.Refusal.{Refusal}
 use mathlib.Core.Bool.{Bool, true, false, cond}
 use mathlib.Core.List.{List}
 use mathlib.Core.Path.{◌≡◌, refl, subst}
@@ -27,18 +26,18 @@ WetSmall Answer.Done = Unit
 WetSmall (Answer.Zeroed q) = Unit
 WetSmall (Answer.Spanned s) = Unit
 WetSmall (Answer.Area n area) = Unit
-WetSmall (Answer.Refused why) = Unit
+WetSmall (Answer.Refused number) = Unit
 
 by_case : {sheets : List ℕ} {st : State} {entry : Entry} {r : Stepped} → Workable st → Ruled sheets st entry r → WetSmall r.answer
 by_case w (samples x) = wet_in w.loaded x
-by_case w (refuses kind) = tt
+by_case w (refuses kind n) = tt
 by_case w malformed = tt
 by_case w (loads e s) = tt
 by_case w (zeroes n) = tt
 by_case w (spans low high) = tt
 by_case w (refers g) = tt
 by_case w absolute = tt
-by_case w closes = tt
+by_case w (closes n) = tt
 by_case w (starts s) = tt
 by_case w stops = tt
 by_case w (totals i) = tt
@@ -47,7 +46,7 @@ small : (sheets : List ℕ) (st : State) (entry : Entry) → WetSmall (step_of s
 unfolding step_of
 small sheets st entry = go (workable st) refl
   where
-    go : (t : Bool) → workable st ≡ t → WetSmall (cond t (rules sheets st entry) (refused st Refusal.NoSheet)).answer
+    go : (t : Bool) → workable st ≡ t → WetSmall (cond t (rules sheets st entry) (refused st 1)).answer
     go true e = by_case (work st e) (ruled sheets st entry)
     go false e = tt
 

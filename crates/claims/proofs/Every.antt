@@ -37,7 +37,7 @@ of_sample kind (Answer.Reading r wet dry) f =
       dry_exact = is_whole dry s.y;
       signal_exact = is_whole (pos r) (omega (arith, s.m));
     }
-of_sample kind (Answer.Refused why) f = (refusal_kept (record_with kind (Answer.Refused why)) f.suits.0).0
+of_sample kind (Answer.Refused number) f = (refusal_kept (record_with kind (Answer.Refused number)) f.suits.0).0
 of_sample kind Answer.Done f = rw f.suits.0
 of_sample kind (Answer.Zeroed q) f = rw f.suits
 of_sample kind (Answer.Spanned s) f = rw f.suits
@@ -48,7 +48,7 @@ unfolding host_area
 of_area kind (Answer.Area n area) f =
     let s = f.small in
     record { is = area_kept (record_with kind (Answer.Area n area)) refl f.suits s.x; exact = is_whole area s.x }
-of_area kind (Answer.Refused why) f = (refusal_kept (record_with kind (Answer.Refused why)) f.suits.0).1
+of_area kind (Answer.Refused number) f = (refusal_kept (record_with kind (Answer.Refused number)) f.suits.0).1
 of_area kind Answer.Done f = rw f.suits.1
 of_area kind (Answer.Zeroed q) f = rw f.suits
 of_area kind (Answer.Spanned s) f = rw f.suits

@@ -1,6 +1,5 @@
 -- What the host gets of every event of every file, from the bytes of a run's output: no accepted sample and no accepted area is lost on
 -- the way, each double is exactly the line's number, and a refusal has the line's number. `proofs/Every.antt` proves it. Assumes nothing.
-use Rattle.refusals.specs.Numbers.{refusal_number}
 use Rattle.std.specs.Prelude.{Result, Ok, Float, ℕ, ◌*◌, ◌≤◌, true, List, ◌≡◌, ℤ, pos, length, take, drop}
 use Rattle.fields.specs.Fields.{AreBytes}
 use Rattle.rules.specs.declared.Answer.{Answer}
@@ -28,7 +27,7 @@ pub record AreaGiven (area : ℤ) (got : Result Float Refused) : Type 0 where
 -- what the host gets of an answer that it asks for as a sample's: a reading; the refusal's number; or, of any other event's, 11
 abbrev pub GivenAsSample : Answer → Result Doubles Refused → Type 0
 GivenAsSample (Answer.Reading r wet dry) got = ReadingGiven r wet dry got
-GivenAsSample (Answer.Refused why) got = got ≡ refused (refusal_number why)
+GivenAsSample (Answer.Refused number) got = got ≡ refused number
 GivenAsSample Answer.Done got = got ≡ refused 11
 GivenAsSample (Answer.Zeroed q) got = got ≡ refused 11
 GivenAsSample (Answer.Spanned s) got = got ≡ refused 11
@@ -37,7 +36,7 @@ GivenAsSample (Answer.Area n area) got = got ≡ refused 11
 -- and as an area's
 abbrev pub GivenAsArea : Answer → Result Float Refused → Type 0
 GivenAsArea (Answer.Area n area) got = AreaGiven area got
-GivenAsArea (Answer.Refused why) got = got ≡ refused (refusal_number why)
+GivenAsArea (Answer.Refused number) got = got ≡ refused number
 GivenAsArea Answer.Done got = got ≡ refused 11
 GivenAsArea (Answer.Zeroed q) got = got ≡ refused 11
 GivenAsArea (Answer.Spanned s) got = got ≡ refused 11

@@ -1,6 +1,5 @@
 -- What accepted samples make of an integration that a start began: it counts their wet values, and closes at its limit (`ShortCharts`). Assumes nothing.
 use Rattle.std.specs.Prelude.{Ok, Err}
-use Rattle.refusals.specs.declared.Refusal.{Refusal}
 use Prim.Native.Nat.{ℕ}
 use native.Mathlib.Omega.{arith}
 use mathlib.Core.Bool.{Bool, true, false, cond}
@@ -59,7 +58,7 @@ module _ (sheets : List ℕ) where
   unfolding step_of
   closed st at {t} e = go (workable st)
     where
-      go : (w : Bool) → (cond w (sample_rule st at) (refused st Refusal.NoSheet)).state.integration ≡ Integration.Closed t
+      go : (w : Bool) → (cond w (sample_rule st at) (refused st 1)).state.integration ≡ Integration.Closed t
       go true =
           let x = sampled_of (storing st at) at (finding_in (storing st at).stored) in
           ap (λ (i : Integration). sample_after i x) e ∙ stays t x

@@ -1,6 +1,5 @@
 -- A record that the code works with is stepped by the rules, and no other gets an accepted answer. A step sees the sheets through the lookup of
 -- its load alone, an accepted load forgets the state before it, and a short start is answered as a start is. Assumes nothing.
-use Rattle.refusals.specs.declared.Refusal.{Refusal}
 use Rattle.std.specs.Prelude.{Err, None, Ok, Option, Some}
 use mathlib.Core.Bool.{Bool, true, false, cond}
 use mathlib.Core.List.{List}
@@ -35,7 +34,7 @@ module _ (sheets : List ℕ) (st : State) (entry : Entry) where
   unfolding step_of
   worked = go (workable st)
     where
-      go : (w : Bool) → accepted (cond w (rules sheets st entry) (refused st Refusal.NoSheet)).answer ≡ true → w ≡ true
+      go : (w : Bool) → accepted (cond w (rules sheets st entry) (refused st 1)).answer ≡ true → w ≡ true
       go true k = refl
       go false k = k
 
@@ -88,7 +87,7 @@ module _ (sheets : List ℕ) (index : ℕ) where
 -- ---- what the two starts leave: refusal 1 without a sheet, or at a record that the code does not work with
 module _ (sheets : List ℕ) (st : State) where
   abbrev given : Bool → Option Sheet → Chart → Stepped
-  given w l chart = cond w (needing_sheet l st (λ (s : Sheet). answered Answer.Done (with_integration st (started chart)))) (refused st Refusal.NoSheet)
+  given w l chart = cond w (needing_sheet l st (λ (s : Sheet). answered Answer.Done (with_integration st (started chart)))) (refused st 1)
 
   alike : (w : Bool) (l : Option Sheet) → (given w l Chart.Short).answer ≡ (given w l Chart.Long).answer
   alike true None = refl

@@ -1,7 +1,6 @@
 -- The starred cases of document 01, "Readings on the bench", as R-1, R-5 and R-7 have them, with R-1's two limits, R-5's flat line and a stored
 -- finding that no search gives (R-7), as one fact about the rules: each as what `rules` answers to an entry at a named state, and the state that
 -- it leaves. Assumes nothing.
-use Rattle.refusals.specs.declared.Refusal.{Refusal}
 use Rattle.std.specs.Prelude.{List, [], ◌∷◌, ◌≡◌, ℕ, ℤ, pos, negsuc, neg_ℤ, None, Option, Some}
 use Rattle.curve.specs.Bench.{bench_sheet, StarredReadings}
 use Rattle.reference.specs.Bench.{small_sheet, StarredReferences}
@@ -96,7 +95,7 @@ pub record StarredCases : Type 0 where
   pub v_1 : Answers bench_state (sample (pos 1)) (Answer.Reading 0 (pos 15) (pos 15))
   pub v_minus_1 : Answers bench_state (sample (neg_ℤ (pos 1))) (Answer.Reading 0 (neg_ℤ (pos 15)) (neg_ℤ (pos 15)))
   pub v_minus_2000000 : Answers bench_state (sample (neg_ℤ (pos 2000000))) (Answer.Reading 0 (neg_ℤ (pos 30000000)) (neg_ℤ (pos 30000000)))
-  pub v_minus_2000001 : Answers bench_state (sample (neg_ℤ (pos 2000001))) (Answer.Refused Refusal.BelowZero)
+  pub v_minus_2000001 : Answers bench_state (sample (neg_ℤ (pos 2000001))) (Answer.Refused 7)
   pub v_39999999 : Answers bench_state (sample (pos 39999999)) (Answer.Reading 0 (pos 999999967) (pos 999999967))
   pub v_40000000 : Answers bench_state (sample (pos 40000000)) (Answer.Reading 0 (pos 1000000000) (pos 1000000000))
   -- P 81,040, V 32,000,000; T 30,411, V 40,000,000
@@ -104,7 +103,7 @@ pub record StarredCases : Type 0 where
   pub t_30411 : Answers bench_state (sample_in (pos 40000000) 101300 30411 0) (Answer.Reading 0 (pos 1019989938) (pos 1019989938))
   -- P 100,000, V 40,456,000: e 2,000; e 10,001 is refusal 6, 10,000 passes
   pub e_2000 : Answers bench_state (sample_in (pos 40456000) 100000 29815 2000) (Answer.Reading 0 (pos 1034193379) (pos 1055299366))
-  pub e_10001 : Answers bench_state (sample_in (pos 40456000) 100000 29815 10001) (Answer.Refused Refusal.BadInput)
+  pub e_10001 : Answers bench_state (sample_in (pos 40456000) 100000 29815 10001) (Answer.Refused 6)
   pub e_10000 : Passes bench_state (sample_in (pos 40456000) 100000 29815 10000)
   -- reference 1,000,000,000: R 40,000,000, which stays stored (R-7); raw 0, 10,000,000 and −10,000,000; raw 0 with 30,000,000 stored; with K
   -- 10,000,000 refusal 9, and that nothing was found stays stored
@@ -119,13 +118,13 @@ pub record StarredCases : Type 0 where
       AnswersLeaving (reference_state None) (sample (negsuc 9999999)) (Answer.Reading 40000000 (pos 695040000) (pos 695040000))
       (reference_state (found_there (Some 40000000)))
   pub stored_30000000 : Answers (reference_state (found_there (Some 30000000))) (sample (pos 0)) (Answer.Reading 30000000 (pos 630000000) (pos 630000000))
-  pub k_10000000 : AnswersLeaving (small_state None) (sample (pos 0)) (Answer.Refused Refusal.NoReference) (small_state (found_there None))
+  pub k_10000000 : AnswersLeaving (small_state None) (sample (pos 0)) (Answer.Refused 9) (small_state (found_there None))
   -- span to 1,000,000,000: the answer, and the S that it leaves; refusal 5 leaves the old one
   pub span_800000 : AnswersLeaving bench_state (span_to (pos 50000000)) (Answer.Spanned 800000) (span_state 800000)
   pub span_2000000 : AnswersLeaving bench_state (span_to (pos 20000000)) (Answer.Spanned 2000000) (span_state 2000000)
-  pub span_beyond : Answers bench_state (span_to (pos 19999999)) (Answer.Refused Refusal.NoSpan)
+  pub span_beyond : Answers bench_state (span_to (pos 19999999)) (Answer.Refused 5)
   pub span_500000 : AnswersLeaving bench_state (span_to (pos 80000000)) (Answer.Spanned 500000) (span_state 500000)
-  pub span_below : Answers bench_state (span_to (pos 90000000)) (Answer.Refused Refusal.NoSpan)
+  pub span_below : Answers bench_state (span_to (pos 90000000)) (Answer.Refused 5)
   -- a start, wet values 1,000,000,000, 1,388,160,000, 1,000,000,000, and the area (R-5)
   pub three_readings :
       Answers (after (reference_state None) (start ∷ sample (pos 0) ∷ sample (pos 10000000) ∷ sample (pos 0) ∷ [])) area (Answer.Area 3 (pos 776320000))

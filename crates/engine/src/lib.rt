@@ -21,7 +21,7 @@ pub fn step(sheets: &[u8], state: State, entry: Entry) -> Stepped
     ensures { result ≡ step_of sheets.now state entry }
 {
     if !workable(state) {
-        return refuse(state, Refusal::NoSheet);
+        return refuse(state, Refusal::NoSheet.number());
     }
     match entry {
         Entry::Known(event) => known(sheets, state, event),

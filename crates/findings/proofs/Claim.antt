@@ -1,5 +1,4 @@
 -- R-7's claims hold, for every list of sheets, every list of entries and every record that the code works with. Assumes nothing.
-use Rattle.refusals.proofs.Listed.{not_0}
 use Rattle.refusals.specs.declared.Refusal.{Refusal}
 use Rattle.std.specs.Prelude.{Err, None, Option, Some}
 use mathlib.Core.Bool.{Bool, true, false, cond}
@@ -7,9 +6,11 @@ use mathlib.Core.List.{List, []}
 use mathlib.Core.Path.{◌≡◌, refl, sym, ap, subst, ◌∙◌}
 use Prim.Native.Nat.{ℕ, ◌≤◌}
 use native.Mathlib.Omega.{arith}
+use borrow.Author.Tests.{ne_eqb}
 use lib.Dec.{T, eqb}
 use Rattle.curve.specs.declared.Sheet.{Sheet}
 use Rattle.curve.specs.Absolute.{absolute_of}
+use Rattle.curve.proofs.Within.{range}
 use Rattle.reference.specs.Search.{found_value, reference_of}
 use Rattle.reference.specs.Signal.{signal_of, against_of}
 use Rattle.sampling.specs.declared.Cylinder.{Cylinder}
@@ -65,8 +66,9 @@ sampled_after at = record { emptied = λ x y. absurd (never x refl); refused = �
 
 -- case by case; a refusal's number is never 0
 moved : {sheets : List ℕ} {st : State} {entry : Entry} {r : Stepped} → Ruled sheets st entry r → Leaves st entry r
-moved (refuses {why = why} k) =
-    record { emptied = λ x y. absurd (never y (not_0 why)); refused = λ x y. refl; other = λ x y. refl }
+moved (refuses {number = number} k n) =
+    let m = range 1 11 number n in
+    record { emptied = λ x y. absurd (never y (ne_eqb number 0 (omega arith))); refused = λ x y. refl; other = λ x y. refl }
 moved {st = st} (malformed {kind}) = as_before refl (go (eqb kind 6))
   where
     go : (t : Bool) → (cond t (closing st) st).stored ≡ st.stored
@@ -78,7 +80,7 @@ moved (spans low high) = as_before refl refl
 moved (refers g) = empty_after refl refl refl
 moved Ruled.absolute = empty_after refl refl refl
 moved (samples {at} x) = sampled_after at
-moved (closes {at}) = sampled_after at
+moved (closes {at} n) = sampled_after at
 moved (starts long) = as_before refl refl
 moved (starts short) = as_before refl refl
 moved stops = as_before refl refl

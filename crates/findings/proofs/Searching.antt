@@ -1,6 +1,5 @@
 -- The engine without a store answers as the engine with one, and leaves the same state with nothing stored: rule by rule, then over a list.
 -- Assumes nothing.
-use Rattle.refusals.specs.declared.Refusal.{Refusal}
 use Rattle.std.specs.Prelude.{None, Option, Some, Ok, Err}
 use mathlib.Core.Bool.{Bool, true, false, cond, ◌&&◌}
 use mathlib.Core.List.{List, [], ◌∷◌, map}
@@ -71,8 +70,8 @@ module _ (sheets : List ℕ) (st : State) where
   stop_in_lem (Integration.Closed t) = here _
 
   malformed : (t : Bool)
-      → Beside (refused (cond t (with_integration (emptied st) (closed_of st.integration)) (emptied st)) Refusal.Malformed)
-      (refused (cond t (with_integration st (closed_of st.integration)) st) Refusal.Malformed)
+      → Beside (refused (cond t (with_integration (emptied st) (closed_of st.integration)) (emptied st)) 11)
+      (refused (cond t (with_integration st (closed_of st.integration)) st) 11)
   malformed true = here _
   malformed false = here _
 

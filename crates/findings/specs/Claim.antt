@@ -1,6 +1,5 @@
 -- R-7's claims: what each event does to what is stored; over every list of events, that what is stored is what a search gives, and that no answer
 -- shows it; and what a record gets that was altered to hold another finding. Assumes nothing.
-use Rattle.refusals.specs.declared.Refusal.{Refusal}
 use Rattle.std.specs.Prelude.{ℕ, ◌≤◌, Bool, true, false, List, map, ◌≡◌, None, Option, Some}
 use Rattle.curve.specs.declared.Sheet.{Sheet}
 use Rattle.curve.specs.Absolute.{absolute_of}
@@ -103,7 +102,7 @@ pub record AlteredHolds (sheets : List ℕ) (st : State) : Type 0 where
   pub with_nothing : (s : Sheet) (gas : Cylinder) → st.loaded ≡ Some s → st.mode ≡ Mode.Against gas
       → (at : Measurement) → checked_on (Mode.Against gas) at ≡ true
       → step_of sheets (with_stored st (found_at at None)) (sample_of at)
-      ≡ refused (with_integration (with_stored st (found_at at None)) (closed_of st.integration)) Refusal.NoReference
+      ≡ refused (with_integration (with_stored st (found_at at None)) (closed_of st.integration)) 9
   -- at another P or T what was altered is not looked at: answer and state are those of the record with nothing stored
   pub elsewhere : (s : Sheet) (gas : Cylinder) (at : Measurement) (x : Stored) → stored_within x ≡ true → Searches (with_stored st x) s gas at
       → step_of sheets (with_stored st x) (sample_of at) ≡ step_of sheets (with_stored st None) (sample_of at)

@@ -76,9 +76,9 @@ fn record_of(kind: u8, a: Answer) -> AnswerRecord
         Answer::Spanned(span) => accepted(kind, span as u32, 0, 0),
         Answer::Reading { r, wet, dry } => accepted(kind, r as u32, wet, dry),
         Answer::Area { n, area } => accepted(kind, n as u32, area, 0),
-        Answer::Refused(why) => AnswerRecord {
+        Answer::Refused(refusal) => AnswerRecord {
             kind,
-            refusal: why.number(),
+            refusal,
             m: 0,
             x: 0,
             y: 0,

@@ -1,5 +1,4 @@
 -- Only a sample is answered with 8. Assumes nothing.
-use Rattle.refusals.specs.declared.Refusal.{Refusal}
 use mathlib.Core.Bool.{Bool, true, false, cond}
 use mathlib.Core.List.{List}
 use mathlib.Core.Path.{◌≡◌, refl, subst}
@@ -16,7 +15,7 @@ use Rattle.engine.specs.Step.{step_of}
 use Rattle.engine.proofs.Cases.{Ruled, refuses, malformed, loads, zeroes, spans, refers, absolute, samples, closes, starts, stops, totals, ruled}
 
 by_case : {sheets : List ℕ} {st : State} {entry : Entry} {r : Stepped} → eqb (kind_of entry) 6 ≡ false → Ruled sheets st entry r → eqb (refusal_of r.answer) 8 ≡ false
-by_case e (refuses other) = other.1
+by_case e (refuses other n) = other.1
 by_case e malformed = refl
 by_case e (loads s w) = refl
 by_case e (zeroes n) = refl
@@ -24,7 +23,7 @@ by_case e (spans l u) = refl
 by_case e (refers g) = refl
 by_case e absolute = refl
 by_case e (samples x) = refl
-by_case e closes = absurd (subst T e tt)
+by_case e (closes n) = absurd (subst T e tt)
 by_case e (starts s) = refl
 by_case e stops = refl
 by_case e (totals t) = refl
@@ -33,7 +32,7 @@ pub not_8 : (sheets : List ℕ) (st : State) (entry : Entry) → eqb (kind_of en
 unfolding step_of
 not_8 sheets st entry e = go (workable st)
   where
-    go : (w : Bool) → eqb (refusal_of (cond w (rules sheets st entry) (refused st Refusal.NoSheet)).answer) 8 ≡ false
+    go : (w : Bool) → eqb (refusal_of (cond w (rules sheets st entry) (refused st 1)).answer) 8 ≡ false
     go true = by_case e (ruled sheets st entry)
     go false = refl
 
@@ -42,6 +41,6 @@ pub malformed_11 : (sheets : List ℕ) (st : State) (kind : ℕ) → eqb (refusa
 unfolding step_of
 malformed_11 sheets st kind = go (workable st)
   where
-    go : (w : Bool) → eqb (refusal_of (cond w (rules sheets st (Entry.Malformed kind)) (refused st Refusal.NoSheet)).answer) 8 ≡ false
+    go : (w : Bool) → eqb (refusal_of (cond w (rules sheets st (Entry.Malformed kind)) (refused st 1)).answer) 8 ≡ false
     go true = refl
     go false = refl

@@ -132,7 +132,7 @@ module _ (st : State) (at : Measurement) where
     where
       go : (w : Bool)
           → is_some (cond w (ground_under st.loaded st.q st.s st.mode at (finding_for st at)) None)
-          ≡ eqb (refusal_of (cond w (sample_rule st at) (refused st Refusal.NoSheet)).answer) 8
+          ≡ eqb (refusal_of (cond w (sample_rule st at) (refused st 1)).answer) 8
       go true = rw (answer_refusal given) named_under
       go false = refl
 
@@ -185,8 +185,8 @@ pub over : (sheets : List ℕ) (st : State) (at : Measurement) → eqb (refusal_
 unfolding ground_of step_of sampled_of
 over sheets st at = go (workable st) refl
   where
-    go : (w : Bool) → workable st ≡ w → eqb (refusal_of (cond w (sample_rule st at) (refused st Refusal.NoSheet)).answer) 8 ≡ true
-        → Over st at (cond w (sample_rule st at) (refused st Refusal.NoSheet)).state
+    go : (w : Bool) → workable st ≡ w → eqb (refusal_of (cond w (sample_rule st at) (refused st 1)).answer) 8 ≡ true
+        → Over st at (cond w (sample_rule st at) (refused st 1)).state
     go true e h =
         let o = work st e in
         record {

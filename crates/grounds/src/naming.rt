@@ -51,7 +51,7 @@ pub fn ground_of(st: State, entry: Entry, next: Stepped) -> Option<Ground>
 fn over_range(a: Answer) -> bool
     ensures { result ≡ eqb (refusal_of a) 8 }
 {
-    matches!(a, Answer::Refused(Refusal::OverRange))
+    matches!(a, Answer::Refused(number) if number == Refusal::OverRange.number())
 }
 
 // The ground of a sample that is refused with 8, with what it went by.

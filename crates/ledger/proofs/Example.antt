@@ -1,5 +1,4 @@
 -- Document 01's example holds. The sheet of its bytes is the bench sheet, and reference and sample are starred cases. Assumes nothing.
-use Rattle.refusals.specs.declared.Refusal.{Refusal}
 use Rattle.std.specs.Prelude.{Ok, Some, None}
 use mathlib.Core.Path.{◌≡◌, refl}
 use lib.IntN.{pos}
@@ -37,7 +36,7 @@ sample : step_of example_sheets (reference_state None) example_sample ≡ answer
 unfolding step_of workable sheet_within
 sample = starred_cases.raw_10000000
 
-area : step_of example_sheets sampled example_area ≡ refused sampled Refusal.NotNow
+area : step_of example_sheets sampled example_area ≡ refused sampled 10
 unfolding step_of workable sheet_within
 area = refl
 

@@ -1,18 +1,16 @@
 -- One event under the rules, from a state whose settings are within their limits, whose integration keeps to the ledger's
 -- series, and whose stored finding is a search's: what the claim says of the answer holds, and the next state and ledger are such a pair again. Assumes nothing.
-use Rattle.refusals.specs.Numbers.{refusal_number}
-use Rattle.refusals.specs.declared.Refusal.{Refusal}
-use Rattle.refusals.proofs.Listed.{listed, not_0}
 use Rattle.std.specs.Prelude.{Option}
 use mathlib.Core.Bool.{Bool, true, false, cond}
 use mathlib.Core.List.{List, []}
 use mathlib.Core.Path.{◌≡◌, refl, sym, ◌∙◌}
 use Prim.Native.Nat.{ℕ, ◌≤◌}
 use native.Mathlib.Omega.{arith}
-use borrow.Author.Tests.{le-leb}
+use borrow.Author.Tests.{le-leb, ne_eqb}
 use lib.Dec.{eqb}
 use lib.IntN.{ℤ, nat_abs}
 use Rattle.curve.specs.declared.Sheet.{Sheet}
+use Rattle.curve.specs.Limits.{within}
 use Rattle.curve.proofs.Within.{range}
 use Rattle.exact.specs.Fraction.{Fraction}
 use Rattle.exact.specs.Area.{EachWithin}
@@ -97,32 +95,32 @@ module _ (sheets : List ℕ) (st : State) {ws : List ℤ} {xs : List Fraction} {
         next = record { xs = ys; runs = runs; limit = limit; settings = set; keeps = i; same = same };
       }
 
-  -- ---- refused: the settings, the wet values and the series stay
-  refusal : {entry : Entry} {next : State} (why : Refusal) (runs : Bool)
-      → LedgerHolds g ws entry (Answer.Refused why) → Settings next → Keeps next.integration ws xs runs m
-      → refused_by g entry ≡ ledger_at next xs runs m → Good sheets g ws entry (refused next why)
+  -- ---- refused by a number of the list: the settings, the wet values and the series stay
+  refusal : {entry : Entry} {next : State} (number : ℕ) (runs : Bool) → within 1 11 number ≡ true
+      → LedgerHolds g ws entry (Answer.Refused number) → Settings next → Keeps next.integration ws xs runs m
+      → refused_by g entry ≡ ledger_at next xs runs m → Good sheets g ws entry (refused next number)
   unfolding ledger_step wets_step
-  refusal why runs l set i same =
-      let r = range 1 11 (refusal_number why) (listed why) in
-      let n = not_0 why in
+  refusal number runs w l set i same =
+      let r = range 1 11 number w in
+      let n : eqb number 0 ≡ false = ne_eqb number 0 (λ z. omega (arith, r.0)) in
       makes xs runs m (r.0, r.1, refl, refl, refl) l set (rw n i) (rw n same)
 
   -- the ledger has nothing to compare with a known event that is refused
-  unasked : (event : Event) (why : Refusal) → LedgerHolds g ws (Entry.Known event) (Answer.Refused why)
-  unasked (Event.Load index) why = tt
-  unasked (Event.Zero raw) why = tt
-  unasked (Event.Span at cylinder) why = tt
-  unasked (Event.Reference cylinder e) why = tt
-  unasked Event.Absolute why = tt
-  unasked (Event.Sample at) why = tt
-  unasked Event.Start why = tt
-  unasked Event.Stop why = tt
-  unasked Event.Area why = tt
-  unasked Event.StartShort why = tt
+  unasked : (event : Event) (number : ℕ) → LedgerHolds g ws (Entry.Known event) (Answer.Refused number)
+  unasked (Event.Load index) number = tt
+  unasked (Event.Zero raw) number = tt
+  unasked (Event.Span at cylinder) number = tt
+  unasked (Event.Reference cylinder e) number = tt
+  unasked Event.Absolute number = tt
+  unasked (Event.Sample at) number = tt
+  unasked Event.Start number = tt
+  unasked Event.Stop number = tt
+  unasked Event.Area number = tt
+  unasked Event.StartShort number = tt
 
-  malformed_good : (kind : ℕ) (t : Bool) → eqb kind 6 ≡ t → Good sheets g ws (Entry.Malformed kind) (refused (cond t (closing st) st) Refusal.Malformed)
-  malformed_good kind true e = refusal Refusal.Malformed false refl h (keeps_closed k) (rw e)
-  malformed_good kind false e = refusal Refusal.Malformed b refl h k (rw e)
+  malformed_good : (kind : ℕ) (t : Bool) → eqb kind 6 ≡ t → Good sheets g ws (Entry.Malformed kind) (refused (cond t (closing st) st) 11)
+  malformed_good kind true e = refusal 11 false refl refl h (keeps_closed k) (rw e)
+  malformed_good kind false e = refusal 11 b refl refl h k (rw e)
 
   -- ---- a sample
   taken_is : (x : Fraction) → taken g x ≡ with_series g (taken_at_end xs b x) (taken_runs xs b m)
@@ -148,7 +146,7 @@ module _ (sheets : List ℕ) (st : State) {ws : List ℤ} {xs : List Fraction} {
   -- ---- every entry
   good : {entry : Entry} {r : Stepped} → Ruled sheets st entry r → Good sheets g ws entry r
   unfolding ledger_step wets_step
-  good (refuses {event} {why} other) = refusal why b (unasked event why) h k (rw other.0)
+  good (refuses {event} {number} other n) = refusal number b n (unasked event number) h k (rw other.0)
   good (malformed {kind}) = malformed_good kind (eqb kind 6) refl
   good (loads e w) = makes [] false 0 tt tt (record { sheet = w; zero = omega arith; span_low = omega arith; span_high = omega arith; gas = refl }) idle (rw e)
   good (zeroes n) = makes [] false 0 tt tt (record { sheet = h.sheet; zero = n; span_low = h.span_low; span_high = h.span_high; gas = h.gas }) idle refl
@@ -160,7 +158,7 @@ module _ (sheets : List ℕ) (st : State) {ws : List ℤ} {xs : List Fraction} {
       let w = sample_worth st xs b m h.sheet at x in
       let v = exact_value g at r in
       makes (taken_at_end xs b v) (taken_runs xs b m) m tt w.holds h (keeps_counted k w.near (wet_in h.sheet x)) (taken_is v)
-  good (closes {why = why}) = refusal why false tt h (keeps_closed k) refl
+  good (closes {number = number} n) = refusal number false n tt h (keeps_closed k) refl
   good (starts long) = makes [] true _ tt tt h (keeps_started Chart.Long) refl
   good (starts short) = makes [] true _ tt tt h (keeps_started Chart.Short) refl
   good stops = makes xs false m tt tt h (keeps_closed k) refl

@@ -1,6 +1,5 @@
 -- Demand 3: what holds at each event of every list, refused ones included, from a fresh engine, with the exact ledger going
 -- through the same list, and beside it the wet values counted since the start. Assumes nothing.
-use Rattle.refusals.specs.Numbers.{refusal_number}
 use Rattle.std.specs.Prelude.{true, ℕ, suc, ◌≤◌, List, [], ◌∷◌, ◌≡◌, ℤ, pos, ◌+ℤ◌, ◌-ℤ◌, length, None, Option, Some}
 use Rattle.curve.specs.declared.Sheet.{Sheet}
 use Rattle.exact.specs.Fraction.{whole, LiesWithin, AtLeast, LessThan}
@@ -29,9 +28,8 @@ use Rattle.ledger.specs.Wets.{wets_step}
 -- a refused answer has a number of the list, 1 to 11, and its fields are zero. What this adds is the range, so that 0 stands for
 -- accepted answers alone: the fields are zero by `m_of`, `x_of` and `y_of`, whatever the number, and `by_rules` below fixes which it is
 abbrev pub RefusalHolds : Answer → Type 0
-RefusalHolds (Answer.Refused why) =
-    (1 ≤ refusal_number why) × (refusal_number why ≤ 11)
-    × (m_of (Answer.Refused why) ≡ 0) × (x_of (Answer.Refused why) ≡ pos 0) × (y_of (Answer.Refused why) ≡ pos 0)
+RefusalHolds (Answer.Refused number) =
+    (1 ≤ number) × (number ≤ 11) × (m_of (Answer.Refused number) ≡ 0) × (x_of (Answer.Refused number) ≡ pos 0) × (y_of (Answer.Refused number) ≡ pos 0)
 RefusalHolds Answer.Done = Unit
 RefusalHolds (Answer.Zeroed q) = Unit
 RefusalHolds (Answer.Spanned s) = Unit
@@ -72,7 +70,7 @@ pub record AreaHolds (g : Ledger) (ws : List ℤ) (n : ℕ) (area : ℤ) : Type 
 -- refused, an area by an area or refused
 abbrev pub SampleAnswered : Ledger → Measurement → Answer → Type 0
 SampleAnswered g at (Answer.Reading r wet dry) = SampleHolds g at r wet dry
-SampleAnswered g at (Answer.Refused why) = Unit
+SampleAnswered g at (Answer.Refused number) = Unit
 SampleAnswered g at Answer.Done = ⊥
 SampleAnswered g at (Answer.Zeroed q) = ⊥
 SampleAnswered g at (Answer.Spanned s) = ⊥
@@ -80,7 +78,7 @@ SampleAnswered g at (Answer.Area n area) = ⊥
 
 abbrev pub AreaAnswered : Ledger → List ℤ → Answer → Type 0
 AreaAnswered g ws (Answer.Area n area) = AreaHolds g ws n area
-AreaAnswered g ws (Answer.Refused why) = Unit
+AreaAnswered g ws (Answer.Refused number) = Unit
 AreaAnswered g ws Answer.Done = ⊥
 AreaAnswered g ws (Answer.Zeroed q) = ⊥
 AreaAnswered g ws (Answer.Spanned s) = ⊥

@@ -1,7 +1,6 @@
 -- The paper's numbers of an answer: document 01's refusal, m, x and y for each case, and the kind byte of an entry. Assumes
 -- nothing.
 use Rattle.std.specs.Prelude.{ℕ, Bool, eqb, ℤ, pos}
-use Rattle.refusals.specs.Numbers.{refusal_number}
 use Rattle.rules.specs.declared.Event.{Event}
 use Rattle.rules.specs.declared.Entry.{Entry}
 use Rattle.rules.specs.declared.Answer.{Answer}
@@ -13,7 +12,7 @@ refusal_of (Answer.Zeroed q) = 0
 refusal_of (Answer.Spanned s) = 0
 refusal_of (Answer.Reading r wet dry) = 0
 refusal_of (Answer.Area n area) = 0
-refusal_of (Answer.Refused why) = refusal_number why
+refusal_of (Answer.Refused number) = number
 
 -- m: of a sample R, of a span S, of an area n
 abbrev pub m_of : Answer → ℕ
@@ -22,7 +21,7 @@ m_of (Answer.Zeroed q) = 0
 m_of (Answer.Spanned s) = s
 m_of (Answer.Reading r wet dry) = r
 m_of (Answer.Area n area) = n
-m_of (Answer.Refused why) = 0
+m_of (Answer.Refused number) = 0
 
 -- x: of a sample the wet value, of a zero Q, of an area the area
 abbrev pub x_of : Answer → ℤ
@@ -31,7 +30,7 @@ x_of (Answer.Zeroed q) = q
 x_of (Answer.Spanned s) = pos 0
 x_of (Answer.Reading r wet dry) = wet
 x_of (Answer.Area n area) = area
-x_of (Answer.Refused why) = pos 0
+x_of (Answer.Refused number) = pos 0
 
 -- y: of a sample the dry value
 abbrev pub y_of : Answer → ℤ
@@ -40,7 +39,7 @@ y_of (Answer.Zeroed q) = pos 0
 y_of (Answer.Spanned s) = pos 0
 y_of (Answer.Reading r wet dry) = dry
 y_of (Answer.Area n area) = pos 0
-y_of (Answer.Refused why) = pos 0
+y_of (Answer.Refused number) = pos 0
 
 abbrev pub accepted : Answer → Bool
 accepted a = eqb (refusal_of a) 0

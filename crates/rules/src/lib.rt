@@ -6,7 +6,6 @@ ghost use Rattle.rules.specs.Rules.{fresh};
 
 use counting::Integration;
 use curve::Sheet;
-use refusals::Refusal;
 use sampling::{Measurement, Mode};
 use store::Finding;
 
@@ -55,7 +54,7 @@ pub enum Answer {
     // The reference signal, 0 in absolute mode, and the wet and the dry value.
     Reading { r: u64, wet: i64, dry: i64 },
     Area { n: u64, area: i64 },
-    Refused(Refusal),
+    Refused(u8),
 }
 
 #[derive(Clone, Copy)]

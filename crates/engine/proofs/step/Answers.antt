@@ -11,7 +11,7 @@ works c = sym c.workable.ensures ∙ c.if-not-workable.false
 
 pub returns-then-not-workable : goal.returns-then-not-workable
 unfolding step_of
-returns-then-not-workable c = rw (c.refuse.ensures, sym c.workable.ensures ∙ c.if-not-workable.true)
+returns-then-not-workable c = rw (c.refuse.ensures, c.number.ensures, sym c.workable.ensures ∙ c.if-not-workable.true)
 
 pub returns-in-Known : goal.returns-in-Known
 unfolding step_of

@@ -1,2 +1,3 @@
+pub mod Zero
 pub mod Inverse
 pub mod KindByte

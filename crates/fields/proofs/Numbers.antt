@@ -1,7 +1,8 @@
 -- A number and its bytes, for any count of bytes: as many as asked, each below 256, and the one gives the other back; the number at
--- an index byte by byte, and in a part of the list; the machine's reading and writing; bytes of remainders. Assumes nothing.
+-- an index byte by byte, and in a part of the list; the machine's reading and writing; bytes of remainders and
+-- quotients. Assumes nothing.
 use Prim.Native.Nat.{ℕ, zero, suc, ◌+◌, ◌*◌, ◌/◌, ◌%◌, ◌^◌, ◌<◌, ◌≤◌}
-use native.Mathlib.Nat.{le_refl, add-zero, add-suc, mul_assoc, pow-suc, pow-succ', div-one, div-div-eq-div-mul, mod-add-div, mod-eq_of_lt}
+use native.Mathlib.Nat.{le_refl, zero-add, add-zero, suc-add, add-suc, mul_assoc, pow-suc, pow-succ', div-one, div-div-eq-div-mul, mod-add-div, mod-eq_of_lt}
 use native.Mathlib.Numerals.{add-one}
 use native.Mathlib.Omega.{arith}
 use mathlib.Core.Path.{◌≡◌, refl, ap, sym, ◌∙◌}
@@ -65,6 +66,21 @@ number_byte s at = number_suc 0 s at ∙ add-zero (get_or s at 0)
 -- the same at a place given by its distance from another
 pub number_next : (k : ℕ) (s : List ℕ) (at i : ℕ) → number_at (suc k) s (at + i) ≡ get_or s (at + i) 0 + 256 * number_at k s (at + suc i)
 number_next k s at i = rw add-suc (number_suc k s (at + i))
+
+-- 64 bits from two words
+pub words_joined : (s : List ℕ) (at : ℕ) → u32_at s at + 4294967296 * u32_at s (at + 4) ≡ u64_at s at
+words_joined s at =
+    omega (
+      arith,
+      number_first 7 s at,
+      number_next 6 s at 1,
+      number_next 5 s at 2,
+      number_next 4 s at 3,
+      number_first 3 s at,
+      number_next 2 s at 1,
+      number_next 1 s at 2,
+      number_next 0 s at 3,
+    )
 
 pub number_below : (k : ℕ) (s : List ℕ) (at : ℕ) → AreBytes s → number_at k s at < 256 ^ k
 number_below zero s at b = omega arith
@@ -154,7 +170,7 @@ from_byte (suc k) (suc i) n =
 pub written : (k n : ℕ) → bytes_low_first 0 k n ≡ bytes_of k n
 written k n = from_byte k 0 n ∙ ap (bytes_of k) (div-one n)
 
--- ---- bytes of remainders
+-- ---- bytes of remainders and quotients
 
 -- k bytes show nothing of what lies above them
 above : (k n m : ℕ) → bytes_of k (n + 256 ^ k * m) ≡ bytes_of k n
@@ -168,3 +184,8 @@ above (suc k) n m =
 
 pub bytes_low : (k n : ℕ) → bytes_of k (n % 256 ^ k) ≡ bytes_of k n
 bytes_low k n = sym (above k (n % 256 ^ k) (n / 256 ^ k)) ∙ ap (bytes_of k) (mod-add-div n (256 ^ k))
+
+pub bytes_split : (j k n : ℕ) → bytes_of (j + k) n ≡ bytes_of j n ++ bytes_of k (n / 256 ^ j)
+unfolding bytes_of
+bytes_split zero k n = rw (zero-add, div-one)
+bytes_split (suc j) k n = rw (suc-add, bytes_split j k (n / 256), div-div-eq-div-mul, pow-succ')

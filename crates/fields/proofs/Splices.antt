@@ -1,12 +1,21 @@
--- Bytes put into a lent buffer: none, one piece after the other, and one over the end of another. Assumes nothing.
-use Prim.Native.Nat.{ℕ, ◌+◌, ◌≤◌}
-use native.Mathlib.Nat.{add_assoc, add-zero}
+-- Bytes put into a lent buffer: by a copy into the part from an index on, none, one piece after the other, and one over
+-- the end of another. Assumes nothing.
+use Prim.Native.Nat.{ℕ, ◌+◌, ◌-◌, ◌≤◌}
+use native.Mathlib.Nat.{add_assoc, add-zero, le_refl}
 use native.Mathlib.Omega.{arith}
 use mathlib.Core.Path.{◌≡◌, sym}
-use mathlib.Core.List.{List, [], ◌++◌, append_assoc}
-use lib.ListN.{length, take, drop, length-append, take-append-drop}
-use lib.Seq.{take_at, drop_at, drop-drop, length-take-le}
+use mathlib.Core.List.{List, [], ◌++◌, append-nil, append_assoc}
+use lib.ListN.{length, take, drop, length-append, length-drop, take-append-drop, drop_of_length-le}
+use lib.Seq.{take_all, take-length, take_at, drop_at, drop-drop, length-take-le}
+use borrow.Rule.Slice.PartMut.{put_mid, mid_of}
 use Rattle.fields.specs.Fields.{splice}
+
+-- the part from an index on, lent to a copy of b: b stands in the whole
+pub copied : (out b part : List ℕ) (at : ℕ) → part ≡ take (length b) b ++ drop (length b) (mid_of at (length out - at) out)
+    → put_mid at (length out - at) out part ≡ splice out at b
+copied out b part at e =
+    let k : length (drop at out) ≤ length out - at = rw length-drop (le_refl _) in
+    rw (e, take-length b, take_all (length out - at) (drop at out) k, drop_of_length-le (drop at out) k, append-nil, drop-drop (length b) at out)
 
 -- no bytes at all
 pub splice_none : (out : List ℕ) (at : ℕ) → splice out at [] ≡ out
